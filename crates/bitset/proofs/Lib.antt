@@ -1,0 +1,6 @@
+-- The laws of sets that the other crates' proofs cite.
+pub mod Tests
+pub mod Membership
+pub mod Relations
+pub mod Counting
+pub mod Least

@@ -1,0 +1,162 @@
+-- The answers of loading and of the single firing: what each way through the code has found fixes the answer. Assumes nothing.
+use mathlib.Core.Path.{_≡_, refl, sym, ap, ap₂, _∙_, subst}
+use mathlib.Core.Bool.{Bool, true, false, cond, not, _&&_}
+use mathlib.Core.List.{List}
+use Prim.Native.Nat.{ℕ, _+_, _*_, _/_, _≤_, _<_}
+use native.Mathlib.Omega.{arith}
+use lib.ListN.{length, getD}
+use lib.Dec.{eqb, ltb}
+use borrow.Author.Tests.{lt-ltb, le-ltb, not-true, not-false, eqb-true, eqb-false}
+use Rattle.bitset.specs.Sets.{within}
+use Rattle.tables.proofs.Counts.{sized-most}
+use Rattle.tables.proofs.Scans.{scan-passed}
+use Rattle.tables.proofs.Entries.{getD-upTo}
+use Rattle.net.specs.declared.Net.{Net}
+use Rattle.net.specs.declared.Refusal.{Refusal}
+use Rattle.net.specs.declared.Refusal.the-variants.{Places, Size, Record, Marking, Absent, Disabled}
+use Rattle.net.specs.declared.Checked.{Checked}
+use Rattle.net.specs.declared.Checked.the-variants.{Good, Refused as Bad}
+use Rattle.net.specs.Step.{preOf, postOf, permits, moved, enabled, fired}
+use Rattle.net.specs.Table.{preAt, postAt, transitions, netOf, placesGood, tableSized, recordBad}
+use Rattle.net.specs.Answer.{Fault, none, fault, refusal, checked, orElse, tableFault, loadFault, Answer, refuse, grant, stepAnswer, firing}
+use Rattle.net.proofs.Loops.{enabled-in}
+
+-- ---- 1 and 7
+
+-- each refusal has a number
+refusal-number : (r : Refusal) → eqb (refusal r .number) 0 ≡ false
+unfolding refusal
+refusal-number Places = refl
+refusal-number Size = refl
+refusal-number (Record r) = refl
+refusal-number Marking = refl
+refusal-number Absent = refl
+refusal-number Disabled = refl
+
+module _ (places m : ℕ) (bytes : List ℕ) where
+  rest : Fault
+  rest = orElse (tableFault places bytes) (cond (within places m) none (fault 7 0))
+
+  pub load-places : not (placesGood places) ≡ true → fault 1 0 ≡ loadFault places m bytes
+  unfolding loadFault rest
+  load-places h = sym (ap (λ b. cond b rest (fault 1 0)) (not-true (placesGood places) h))
+
+  placed : not (placesGood places) ≡ false → loadFault places m bytes ≡ rest
+  unfolding loadFault rest
+  placed h = ap (λ b. cond b rest (fault 1 0)) (not-false (placesGood places) h)
+
+  pub load-table : not (placesGood places) ≡ false → (r : Refusal) → checked (Bad r) ≡ tableFault places bytes
+      → checked (Bad r) ≡ loadFault places m bytes
+  unfolding rest checked
+  load-table h r e =
+      sym
+      (placed h
+      ∙ ap (λ f. orElse f (cond (within places m) none (fault 7 0))) (sym e)
+      ∙ ap (λ b. cond b (cond (within places m) none (fault 7 0)) (refusal r)) (refusal-number r))
+
+  loaded : not (placesGood places) ≡ false → checked Good ≡ tableFault places bytes → loadFault places m bytes ≡ cond (within places m) none (fault 7 0)
+  unfolding rest checked
+  loaded h e = placed h ∙ ap (λ f. orElse f (cond (within places m) none (fault 7 0))) (sym e)
+
+  pub load-good : not (placesGood places) ≡ false → checked Good ≡ tableFault places bytes → within places m ≡ true
+      → none ≡ loadFault places m bytes
+  load-good h e w = sym (loaded h e ∙ ap (λ b. cond b none (fault 7 0)) w)
+
+  pub load-marking : not (placesGood places) ≡ false → checked Good ≡ tableFault places bytes → within places m ≡ false
+      → fault 7 0 ≡ loadFault places m bytes
+  load-marking h e w = sym (loaded h e ∙ ap (λ b. cond b none (fault 7 0)) w)
+
+  -- what a net and a marking that are loaded have passed
+  passes : (p w : Bool) (f : Fault) → none ≡ cond p (orElse f (cond w none (fault 7 0))) (fault 1 0)
+      → (p ≡ true) × (w ≡ true) × (f .number ≡ 0)
+  passes true w f e = by (eqb (f .number) 0) refl w e
+    where
+      by : (b : Bool) → eqb (f .number) 0 ≡ b → (w : Bool) → none ≡ cond b (cond w none (fault 7 0)) f
+          → (true ≡ true) × (w ≡ true) × (f .number ≡ 0)
+      by true q true e = (refl, refl, eqb-true (f .number) 0 q)
+      by true q false e = absurd (let z : _≡_ {A = ℕ} 0 7 = ap (λ x. x .number) e in omega arith)
+      by false q w e = absurd (eqb-false (f .number) 0 q (sym (ap (λ x. x .number) e)))
+  passes false w f e = absurd (let z : _≡_ {A = ℕ} 0 1 = ap (λ x. x .number) e in omega arith)
+
+  pub load-passed : none ≡ loadFault places m bytes
+      → (placesGood places ≡ true) × (tableSized bytes ≡ true) × ((t : ℕ) → t < transitions bytes → recordBad places bytes t ≡ false)
+      × (within places m ≡ true)
+  unfolding loadFault tableFault tableSized transitions
+  load-passed e =
+      let r : (placesGood places ≡ true) × (within places m ≡ true) × (tableFault places bytes .number ≡ 0) = passes _ _ _ e in
+      let s = scan-passed 2 3 24 1 64 (recordBad places bytes) (length bytes) (λ q. omega arith) (λ q. omega arith) (r .2) in
+      (r .0, s .0, s .1, r .1)
+
+-- ---- the decoded net
+
+module _ (places : ℕ) (bytes : List ℕ) (sized : tableSized bytes ≡ true) (t : ℕ) (h : t < transitions bytes) where
+  count-most : transitions bytes ≤ 64
+  unfolding tableSized transitions
+  count-most = sized-most 24 1 64 (length bytes) sized
+
+  pub decoded-pre : preOf (netOf places bytes) t ≡ preAt bytes t
+  unfolding netOf
+  decoded-pre = getD-upTo (preAt bytes) (transitions bytes) 64 t h count-most
+
+  pub decoded-post : postOf (netOf places bytes) t ≡ postAt bytes t
+  unfolding netOf
+  decoded-post = getD-upTo (postAt bytes) (transitions bytes) 64 t h count-most
+
+  decoded-enabled : (m : ℕ) → enabled (netOf places bytes) m t ≡ permits (preAt bytes t) (postAt bytes t) m
+  decoded-enabled m = enabled-in (netOf places bytes) m t below ∙ ap₂ (λ (a b : ℕ). permits a b m) decoded-pre decoded-post
+    where
+      below : t < netOf places bytes .count
+      below = unfold netOf in h
+
+-- ---- the single firing
+
+module _ (places m : ℕ) (bytes : List ℕ) (t : ℕ) where
+  pub fire-refused : (r : Refusal) → checked (Bad r) ≡ loadFault places m bytes → refuse (refusal r) ≡ firing places m bytes t
+  unfolding firing checked
+  fire-refused r e =
+      sym
+      (ap (λ f. cond (eqb (f .number) 0) (stepAnswer (netOf places bytes) m t) (refuse f)) (sym e)
+      ∙ ap (λ b. cond b (stepAnswer (netOf places bytes) m t) (refuse (refusal r))) (refusal-number r))
+
+  stepped : checked Good ≡ loadFault places m bytes → firing places m bytes t ≡ stepAnswer (netOf places bytes) m t
+  unfolding firing checked
+  stepped e = ap (λ f. cond (eqb (f .number) 0) (stepAnswer (netOf places bytes) m t) (refuse f)) (sym e)
+
+  pub fire-absent : checked Good ≡ loadFault places m bytes → transitions bytes ≤ t → refuse (fault 8 0) ≡ firing places m bytes t
+  unfolding stepAnswer netOf
+  fire-absent e h =
+      sym
+      (stepped e
+      ∙ ap
+      (λ b. cond b (cond (enabled (netOf places bytes) m t) (grant (fired (netOf places bytes) m t)) (refuse (fault 41 0))) (refuse (fault 8 0)))
+      (le-ltb t (transitions bytes) h))
+
+  step-in : checked Good ≡ loadFault places m bytes → t < transitions bytes
+      → firing places m bytes t
+      ≡ cond (permits (preAt bytes t) (postAt bytes t) m) (grant (moved (preAt bytes t) (postAt bytes t) m)) (refuse (fault 41 0))
+  unfolding stepAnswer checked fired netOf
+  step-in e h =
+      stepped e
+      ∙ ap
+      (λ b. cond b (cond (enabled (netOf places bytes) m t) (grant (fired (netOf places bytes) m t)) (refuse (fault 41 0))) (refuse (fault 8 0)))
+      (lt-ltb t (transitions bytes) h)
+      ∙ ap₂ (λ b (x : ℕ). cond b (grant x) (refuse (fault 41 0)))
+      (decoded-enabled places bytes whole t h m)
+      (ap₂ (λ (a b : ℕ). moved a b m) (decoded-pre places bytes whole t h) (decoded-post places bytes whole t h))
+    where
+      whole : tableSized bytes ≡ true
+      whole = load-passed places m bytes e .1
+
+  module _ (pre post : ℕ) (p : pre ≡ preAt bytes t) (q : post ≡ postAt bytes t) where
+    same : permits pre post m ≡ permits (preAt bytes t) (postAt bytes t) m
+    same = ap₂ (λ (a b : ℕ). permits a b m) p q
+
+    pub fire-enabled : checked Good ≡ loadFault places m bytes → t < transitions bytes → permits pre post m ≡ true
+        → grant (moved pre post m) ≡ firing places m bytes t
+    fire-enabled e h b =
+        ap₂ (λ (x y : ℕ). grant (moved x y m)) p q
+        ∙ sym (step-in e h ∙ ap (λ o. cond o (grant (moved (preAt bytes t) (postAt bytes t) m)) (refuse (fault 41 0))) (sym same ∙ b))
+
+    pub fire-disabled : checked Good ≡ loadFault places m bytes → t < transitions bytes → permits pre post m ≡ false
+        → refuse (fault 41 0) ≡ firing places m bytes t
+    fire-disabled e h b = sym (step-in e h ∙ ap (λ o. cond o (grant (moved (preAt bytes t) (postAt bytes t) m)) (refuse (fault 41 0))) (sym same ∙ b))

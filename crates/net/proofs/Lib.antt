@@ -1,0 +1,5 @@
+-- The laws of nets that the other crates' proofs cite.
+pub mod Loops
+pub mod Answers
+pub mod Independence
+pub mod Runs

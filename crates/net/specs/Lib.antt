@@ -1,0 +1,5 @@
+-- The definitions that the contracts of `net` cite.
+pub mod Step
+pub mod Table
+pub mod Answer
+pub mod Sequence

@@ -1,0 +1,5 @@
+-- The definitions that the contracts of `tables` cite.
+pub mod Bytes
+pub mod Lists
+pub mod Sizes
+pub mod Faults
