@@ -2,3 +2,4 @@
 pub mod Table
 pub mod Formula
 pub mod Meaning
+pub mod Lower

@@ -1,0 +1,8 @@
+-- The laws of category files.
+pub mod Bools
+pub mod Scan
+pub mod Ascent
+pub mod Sources
+pub mod Answers
+pub mod Places
+pub mod Loader

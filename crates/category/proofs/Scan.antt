@@ -1,0 +1,88 @@
+-- What a scan holds that looks for the lowest number that passes a test: for any test. Assumes nothing.
+use mathlib.Core.Path.{_≡_, refl, sym, ap, _∙_, subst}
+use mathlib.Core.Bool.{Bool, true, false, true≢false}
+use mathlib.Core.Logic.{_⊎_, inl, inr, ⊎-elim}
+use Prim.Native.Nat.{ℕ, _+_, _≤_, _<_, zero-le}
+use native.Mathlib.Nat.{eq-or-lt-of-le}
+use native.Mathlib.Omega.{arith}
+use lib.Dec.{ltb}
+use borrow.Author.Tests.{lt-ltb, eq-eqb, ne-eqb, ltb-true, ltb-false}
+use Rattle.tables.specs.Lists.{first}
+use Rattle.tables.proofs.Entries.{first-is, first-none, before-first, at-first, first-le}
+use Rattle.category.specs.Records.{none, some}
+use Rattle.category.specs.Search.{LowestFrom}
+
+-- two numbers
+pub lt-or-ge : (a b : ℕ) → (a < b) ⊎ (b ≤ a)
+lt-or-ge a b = by (ltb a b) refl
+  where
+    by : (t : Bool) → ltb a b ≡ t → (a < b) ⊎ (b ≤ a)
+    by true e = inl (ltb-true a b e)
+    by false e = inr (ltb-false a b e)
+
+-- of the numbers from `from` on and below n those below i are passed, and failed the test
+pub record Passed (f : ℕ → Bool) (from n i : ℕ) : Type 0 where
+  pub start : from ≤ i
+  pub end : i ≤ n
+  pub before : (k : ℕ) → from ≤ k → k < i → f k ≡ false
+
+pub passed-none : (f : ℕ → Bool) (from n : ℕ) → from ≤ n → Passed f from n from
+passed-none f from n h = record { start = omega arith; end = h; before = λ k p q. absurd (omega arith) }
+
+pub passed-more : {f : ℕ → Bool} {from n i : ℕ} → Passed f from n i → i < n → f i ≡ false → Passed f from n (i + 1)
+passed-more {f} {from} {n} {i} p l e =
+    record {
+      start = omega (arith, p .start);
+      end = omega arith;
+      before = λ k a b. ⊎-elim (λ q. subst (λ (x : ℕ). f x ≡ false) (sym q) e) (λ q. p .before k a q) (last k b);
+    }
+  where
+    last : (k : ℕ) → k < i + 1 → (k ≡ i) ⊎ (k < i)
+    last k b = let h : k ≤ i = omega arith in eq-or-lt-of-le h
+
+-- a scan from 0 on that finds one, and one that finds none
+pub passed-first : {f : ℕ → Bool} {n i : ℕ} → Passed f 0 n i → i < n → f i ≡ true → i ≡ first f n
+passed-first {f} {n} {i} p l e = sym (first-is f n i l (λ k q. p .before k zero-le q) e)
+
+pub passed-all : {f : ℕ → Bool} {n i : ℕ} → Passed f 0 n i → n ≤ i → n ≡ first f n
+passed-all {f} {n} {i} p l = sym (first-none f n (λ k q. p .before k zero-le (omega arith)))
+
+-- a scan that stops
+pub passed-lowest : {f : ℕ → Bool} {from n i : ℕ} → Passed f from n i → (i < n → f i ≡ true) → LowestFrom f from n i
+passed-lowest p e = record { start = p .start; end = p .end; before = p .before; found = e }
+
+pub first-lowest : (f : ℕ → Bool) (n : ℕ) → LowestFrom f 0 n (first f n)
+first-lowest f n = record { start = zero-le; end = first-le f n; before = λ k _ l. before-first f n k l; found = at-first f n }
+
+pub lowest-first : {f : ℕ → Bool} {n r : ℕ} → LowestFrom f 0 n r → r ≡ first f n
+lowest-first {f} {n} {r} p = ⊎-elim at (λ l. sym (first-is f n r l (λ k q. p .before k zero-le q) (p .found l))) (eq-or-lt-of-le (p .end))
+  where
+    at : r ≡ n → r ≡ first f n
+    at e = e ∙ sym (first-none f n (λ k q. p .before k zero-le (omega arith)))
+
+-- one that passes
+pub first-below : (f : ℕ → Bool) (n k : ℕ) → k < n → f k ≡ true → first f n < n
+first-below f n k l e = ⊎-elim (λ h. absurd (true≢false (sym e ∙ before-first f n k h))) (λ h. omega arith) (lt-or-ge k (first f n))
+
+pub some-is : (f : ℕ → Bool) (n k : ℕ) → k < n → f k ≡ true → some f n ≡ true
+unfolding some
+some-is f n k l e = lt-ltb (first f n) n (first-below f n k l e)
+
+pub none-not : (f : ℕ → Bool) (n k : ℕ) → k < n → f k ≡ true → none f n ≡ false
+unfolding none
+none-not f n k l e = let h : first f n < n = first-below f n k l e in ne-eqb (first f n) n (λ q. omega arith)
+
+pub none-all : {f : ℕ → Bool} {n i : ℕ} → Passed f 0 n i → n ≤ i → none f n ≡ true
+unfolding none
+none-all {f} {n} p l = eq-eqb (first f n) n (sym (passed-all p l))
+
+-- a scan from a number on, where none before that number passes
+pub lowest-some : {f : ℕ → Bool} {from n r : ℕ} → LowestFrom f from n r → ((k : ℕ) → k < from → f k ≡ false) → ltb r n ≡ some f n
+unfolding some
+lowest-some {f} {from} {n} {r} p h = ap (λ (x : ℕ). ltb x n) (lowest-first whole)
+  where
+    all : (k : ℕ) → k < r → f k ≡ false
+    all k l = ⊎-elim (h k) (λ q. p .before k q l) (lt-or-ge k from)
+
+    whole : LowestFrom f 0 n r
+    whole = record { start = zero-le; end = p .end; before = λ k _ l. all k l; found = p .found }

@@ -1,0 +1,76 @@
+-- The text of an action in one file, and the label from two files. Document 01: "The label of an action comes from the translation if
+-- that has the action, otherwise from the house file". Assumes nothing.
+use Prim.Native.Nat.{ℕ, _+_, _*_}
+use mathlib.Core.Bool.{Bool, cond, _&&_}
+use mathlib.Core.List.{List, []}
+use lib.ListN.{take, drop}
+use lib.Dec.{eqb, ltb}
+use Rattle.tables.specs.Lists.{first}
+use Rattle.category.specs.Records.{count, kindAt, lenderAt, some, textLength, hasAction, lendsAt}
+use Rattle.category.specs.Faults.{faultless}
+use Rattle.category.specs.declared.LabelPlace.{LabelPlace}
+
+-- the text of record i, padding left off
+unfoldable pub ownText : List ℕ → ℕ → List ℕ
+ownText file i = take (textLength file i) (drop (i * 32 + 8) file)
+
+-- some record of the file has the action a
+unfoldable pub has : List ℕ → ℕ → Bool
+has file a = some (hasAction file a) (count file)
+
+-- the lowest record of the action a; the number of records where there is none
+unfoldable pub recordOf : List ℕ → ℕ → ℕ
+recordOf file a = first (hasAction file a) (count file)
+
+-- the lowest record that lends the text of the action a; the number of records where there is none
+unfoldable pub lenderOf : List ℕ → ℕ → ℕ
+lenderOf file a = first (lendsAt file a) (count file)
+
+-- the record that record i takes its text from: at kind byte 1 that of the lender, else itself
+unfoldable pub sourceAt : List ℕ → ℕ → ℕ
+sourceAt file i = cond (eqb (kindAt file i) 1) (lenderOf file (lenderAt file i)) i
+
+-- the record that has the text of the action a; the number of records where there is none
+unfoldable pub sourceOf : List ℕ → ℕ → ℕ
+sourceOf file a = cond (has file a) (sourceAt file (recordOf file a)) (count file)
+
+-- where that text starts in the file: 0 where there is none
+unfoldable pub textOffset : List ℕ → ℕ → ℕ
+textOffset file a = cond (ltb (sourceOf file a) (count file)) (sourceOf file a * 32 + 8) 0
+
+-- its length: 0 where there is none
+unfoldable pub textSize : List ℕ → ℕ → ℕ
+textSize file a = cond (ltb (sourceOf file a) (count file)) (textLength file (sourceOf file a)) 0
+
+-- the text of the action a in one file, in any condition: empty where there is none
+unfoldable pub textOf : List ℕ → ℕ → List ℕ
+textOf file a = take (textSize file a) (drop (textOffset file a) file)
+
+-- the label of the action a: empty where a file is faulty or there is no record
+unfoldable pub labelOf : (translation house : List ℕ) → ℕ → List ℕ
+labelOf translation house a =
+    cond (faultless translation && faultless house) (cond (has translation a) (textOf translation a) (textOf house a)) []
+
+-- the place of a label: the file's number, 0 the translation and 1 the house file, offset and length
+unfoldable pub placeIn : ℕ → List ℕ → ℕ → LabelPlace
+placeIn number file a = record { file = number; offset = textOffset file a; length = textSize file a }
+
+-- no label
+unfoldable pub nowhere : LabelPlace
+nowhere = record { file = 0; offset = 0; length = 0 }
+
+-- the place of the label of the action a, all zero for none
+unfoldable pub placeOf : (translation house : List ℕ) → ℕ → LabelPlace
+placeOf translation house a =
+    cond
+    (faultless translation && faultless house)
+    (cond (has translation a) (placeIn 0 translation a) (cond (has house a) (placeIn 1 house a) nowhere))
+    nowhere
+
+-- the file that a place's number names
+unfoldable pub fileOf {ℓ} : {A : Type ℓ} → ℕ → (translation house : A) → A
+fileOf number translation house = cond (eqb number 0) translation house
+
+-- the bytes at a place of the two files
+unfoldable pub bytesAt : (translation house : List ℕ) → LabelPlace → List ℕ
+bytesAt translation house p = take (p .length) (drop (p .offset) (fileOf (p .file) translation house))

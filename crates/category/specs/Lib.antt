@@ -1,0 +1,6 @@
+-- The definitions that the contracts of `category` cite.
+pub mod Records
+pub mod Faults
+pub mod Labels
+pub mod Search
+pub mod Loader

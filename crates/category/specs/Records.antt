@@ -1,0 +1,57 @@
+-- Category records, 32 bytes each. Document 01: action 2, kind 1, zero 1, lender 2, two zero bytes, text 24. All of it is about files
+-- in any condition: what stands past a file's end reads as zero. Assumes nothing.
+use Prim.Native.Nat.{ℕ, _+_, _*_, _/_}
+use mathlib.Core.Bool.{Bool, _&&_}
+use mathlib.Core.List.{List}
+use lib.ListN.{length, getD}
+use lib.Dec.{eqb, ltb}
+use Rattle.tables.specs.Bytes.{field}
+use Rattle.tables.specs.Lists.{first}
+
+-- the number of whole records
+abbrev pub count : List ℕ → ℕ
+count file = length file / 32
+
+-- the action of record i
+unfoldable pub actionAt : List ℕ → ℕ → ℕ
+actionAt file i = field 2 (i * 32) file
+
+-- its kind byte
+unfoldable pub kindAt : List ℕ → ℕ → ℕ
+kindAt file i = getD file (i * 32 + 2) 0
+
+-- its lender
+unfoldable pub lenderAt : List ℕ → ℕ → ℕ
+lenderAt file i = field 2 (i * 32 + 4) file
+
+-- byte j of the text of record i
+unfoldable pub textByte : List ℕ → ℕ → ℕ → ℕ
+textByte file i j = getD file (i * 32 + 8 + j) 0
+
+-- the three bytes of record i that have no use are zero
+unfoldable pub spareZero : List ℕ → ℕ → Bool
+spareZero file i = eqb (getD file (i * 32 + 3) 0) 0 && eqb (field 2 (i * 32 + 6) file) 0
+
+-- no number below n passes the test f
+unfoldable pub none : (ℕ → Bool) → ℕ → Bool
+none f n = eqb (first f n) n
+
+-- some number below n passes the test f
+unfoldable pub some : (ℕ → Bool) → ℕ → Bool
+some f n = ltb (first f n) n
+
+-- how many bytes of the text of record i stand before the first zero byte: 24 where there is none
+unfoldable pub textLength : List ℕ → ℕ → ℕ
+textLength file i = first (λ j. eqb (textByte file i j) 0) 24
+
+-- record i has the action a
+unfoldable pub hasAction : List ℕ → ℕ → ℕ → Bool
+hasAction file a i = eqb (actionAt file i) a
+
+-- record i has the action a and the kind byte 0, so that records of kind 1 can borrow its text
+unfoldable pub lendsAt : List ℕ → ℕ → ℕ → Bool
+lendsAt file a i = hasAction file a i && eqb (kindAt file i) 0
+
+-- some record of the file, faulty or not, lends the text of the action a
+unfoldable pub lends : List ℕ → ℕ → Bool
+lends file a = some (lendsAt file a) (count file)

@@ -1,0 +1,430 @@
+// Category files: the check of a translation and a house file, the lookup in one file, and the label from both.
+ghost use mathlib.Core.Path.{_≡_};
+ghost use mathlib.Core.Bool.{_&&_};
+ghost use Prim.Native.Nat.{_+_, _≤_, _<_};
+ghost use Rattle.category.specs.Records as records;
+ghost use Rattle.category.specs.Faults as faults;
+ghost use Rattle.category.specs.Labels as labels;
+ghost use Rattle.category.specs.Search as search;
+
+// The answer of a check: document 01's 9 is Size, its 10 is Record, with the number of the record.
+pub enum Checked {
+    Good,
+    Size,
+    Record(usize),
+}
+
+// Where a label stands: file 0 is the translation and 1 the house file; all zero for no label.
+pub struct LabelPlace {
+    pub file: u32,
+    pub offset: u32,
+    pub length: u32,
+}
+
+// A text's offset in its file, and its length.
+struct TextPart {
+    offset: usize,
+    size: usize,
+}
+
+// ---- fields of a record
+
+// A record's action.
+fn action_at(file: &[u8], i: usize) -> u16
+    requires { ⌜ i < records.count (now file) ⌝ }
+    ensures { λ r. ⌜ r ≡ records.actionAt (now (file .entry)) i ⌝ }
+{
+    tables::u16_at(file, i * 32)
+}
+
+// Its kind byte.
+fn kind_at(file: &[u8], i: usize) -> u8
+    requires { ⌜ i < records.count (now file) ⌝ }
+    ensures { λ r. ⌜ r ≡ records.kindAt (now (file .entry)) i ⌝ }
+{
+    file[i * 32 + 2]
+}
+
+// Its lender.
+fn lender_at(file: &[u8], i: usize) -> u16
+    requires { ⌜ i < records.count (now file) ⌝ }
+    ensures { λ r. ⌜ r ≡ records.lenderAt (now (file .entry)) i ⌝ }
+{
+    tables::u16_at(file, i * 32 + 4)
+}
+
+// A byte of its text.
+fn text_byte(file: &[u8], i: usize, j: usize) -> u8
+    requires { ⌜ (i < records.count (now file)) × (j < 24) ⌝ }
+    ensures { λ r. ⌜ r ≡ records.textByte (now (file .entry)) i j ⌝ }
+{
+    file[i * 32 + 8 + j]
+}
+
+// Whether its bytes that have no use are zero.
+fn spare_zero(file: &[u8], i: usize) -> bool
+    requires { ⌜ i < records.count (now file) ⌝ }
+    ensures { λ r. ⌜ r ≡ records.spareZero (now (file .entry)) i ⌝ }
+{
+    let spare = file[i * 32 + 3];
+    let pair = tables::u16_at(file, i * 32 + 6);
+    (spare == 0) & (pair == 0)
+}
+
+// Whether it has an action.
+fn has_action(file: &[u8], action: u16, i: usize) -> bool
+    requires { ⌜ i < records.count (now file) ⌝ }
+    ensures { λ r. ⌜ r ≡ records.hasAction (now (file .entry)) action i ⌝ }
+{
+    action_at(file, i) == action
+}
+
+// Whether it lends the text of an action.
+fn lends_at(file: &[u8], action: u16, i: usize) -> bool
+    requires { ⌜ i < records.count (now file) ⌝ }
+    ensures { λ r. ⌜ r ≡ records.lendsAt (now (file .entry)) action i ⌝ }
+{
+    has_action(file, action, i) & (kind_at(file, i) == 0)
+}
+
+// ---- searches
+
+// How many bytes of a record's text stand before the first zero byte.
+fn text_length(file: &[u8], i: usize) -> usize
+    requires { ⌜ i < records.count (now file) ⌝ }
+    ensures { λ r. ⌜ (r ≡ records.textLength (now (file .entry)) i) × (r ≤ 24) ⌝ }
+{
+    let mut j: usize = 0;
+    while j < 24 {
+        if text_byte(file, i, j) == 0 {
+            return j;
+        }
+        j += 1;
+    }
+    24
+}
+
+// The lowest record of an action, or the number of records.
+fn find(file: &[u8], action: u16) -> usize
+    ensures { λ r. ⌜ r ≡ labels.recordOf (now (file .entry)) action ⌝ }
+{
+    let n = file.len() / 32;
+    let mut i: usize = 0;
+    while i < n {
+        if has_action(file, action, i) {
+            return i;
+        }
+        i += 1;
+    }
+    n
+}
+
+// The lowest record from a number on that lends the text of an action, or the number of records.
+fn find_lender(file: &[u8], action: u16, from: usize) -> usize
+    requires { ⌜ from ≤ records.count (now file) ⌝ }
+    ensures { λ r. ⌜ search.LowestFrom (records.lendsAt (now (file .entry)) action) from (records.count (now (file .entry))) r ⌝ }
+{
+    let n = file.len() / 32;
+    let mut i = from;
+    while i < n {
+        if lends_at(file, action, i) {
+            return i;
+        }
+        i += 1;
+    }
+    i
+}
+
+// Whether a record's action is above that of the record before it.
+fn ascends(file: &[u8], i: usize) -> bool
+    requires { ⌜ i < records.count (now file) ⌝ }
+    ensures { λ r. ⌜ r ≡ faults.ascends (now (file .entry)) i ⌝ }
+{
+    if i == 0 {
+        return true;
+    }
+    action_at(file, i - 1) < action_at(file, i)
+}
+
+// How many records at the start of the file have strictly ascending actions.
+fn ascending(file: &[u8]) -> usize
+    ensures { λ r. ⌜ r ≡ search.ascending (now (file .entry)) ⌝ }
+{
+    let n = file.len() / 32;
+    let mut i: usize = 0;
+    while i < n {
+        if !ascends(file, i) {
+            return i;
+        }
+        i += 1;
+    }
+    n
+}
+
+// Among the records with ascending actions, the lowest whose action is not below the given one.
+fn lower_bound(file: &[u8], action: u16, sorted: usize) -> usize
+    requires { ⌜ sorted ≡ search.ascending (now file) ⌝ }
+    ensures { λ r. ⌜ search.LowerBound (now (file .entry)) action sorted r ⌝ }
+{
+    let mut low: usize = 0;
+    let mut high = sorted;
+    while low < high {
+        let middle = low + (high - low) / 2;
+        if action_at(file, middle) < action {
+            low = middle + 1;
+        } else {
+            high = middle;
+        }
+    }
+    low
+}
+
+// Whether some record lends the text of an action: a binary search where the actions ascend, then a scan of the records behind.
+fn lends(file: &[u8], action: u16, sorted: usize) -> bool
+    requires { ⌜ sorted ≡ search.ascending (now file) ⌝ }
+    ensures { λ r. ⌜ r ≡ records.lends (now (file .entry)) action ⌝ }
+{
+    let at = lower_bound(file, action, sorted);
+    if at < sorted {
+        if lends_at(file, action, at) {
+            return true;
+        }
+    }
+    find_lender(file, action, sorted) < file.len() / 32
+}
+
+// ---- faults
+
+// A byte that a text may have.
+fn good_byte(b: u8) -> bool
+    ensures { λ r. ⌜ r ≡ faults.goodByte b ⌝ }
+{
+    ((0x20 <= b) & (b <= 0x7E)) | (0xA0 <= b)
+}
+
+// Whether byte j of a text is wrong, where the text is to be some good bytes and then zeros.
+fn wrong_byte(size: usize, j: usize, b: u8) -> bool
+    ensures { λ r. ⌜ r ≡ faults.wrongByte size j b ⌝ }
+{
+    if j < size {
+        return !good_byte(b);
+    }
+    b != 0
+}
+
+// Whether a record's text is some good bytes and then zeros.
+fn text_is(file: &[u8], i: usize, size: usize) -> bool
+    requires { ⌜ i < records.count (now file) ⌝ }
+    ensures { λ r. ⌜ r ≡ faults.textIs (now (file .entry)) i size ⌝ }
+{
+    let mut j: usize = 0;
+    while j < 24 {
+        if wrong_byte(size, j, text_byte(file, i, j)) {
+            return false;
+        }
+        j += 1;
+    }
+    true
+}
+
+// Whether a record is good as one with a text of its own.
+fn own_good(file: &[u8], i: usize) -> bool
+    requires { ⌜ i < records.count (now file) ⌝ }
+    ensures { λ r. ⌜ r ≡ faults.ownGood (now (file .entry)) i ⌝ }
+{
+    let size = text_length(file, i);
+    (lender_at(file, i) == 0) & (1 <= size) & text_is(file, i, size)
+}
+
+// Whether a record is good as one with a borrowed text.
+fn borrow_good(file: &[u8], i: usize, sorted: usize) -> bool
+    requires { ⌜ (i < records.count (now file)) × (sorted ≡ search.ascending (now file)) ⌝ }
+    ensures { λ r. ⌜ r ≡ faults.borrowGood (now (file .entry)) i ⌝ }
+{
+    text_is(file, i, 0) & lends(file, lender_at(file, i), sorted)
+}
+
+// Whether a record is good as its kind asks.
+fn kind_good(file: &[u8], i: usize, sorted: usize) -> bool
+    requires { ⌜ (i < records.count (now file)) × (sorted ≡ search.ascending (now file)) ⌝ }
+    ensures { λ r. ⌜ r ≡ faults.kindGood (now (file .entry)) i ⌝ }
+{
+    let kind = kind_at(file, i);
+    if kind == 0 {
+        return own_good(file, i);
+    }
+    if kind == 1 {
+        return borrow_good(file, i, sorted);
+    }
+    false
+}
+
+// Whether a record is faulty.
+fn record_bad(file: &[u8], i: usize, sorted: usize) -> bool
+    requires { ⌜ (i < records.count (now file)) × (sorted ≡ search.ascending (now file)) ⌝ }
+    ensures { λ r. ⌜ r ≡ faults.recordBad (now (file .entry)) i ⌝ }
+{
+    !(ascends(file, i) & spare_zero(file, i) & kind_good(file, i, sorted))
+}
+
+// The lowest faulty record, or the number of records.
+fn first_bad(file: &[u8]) -> usize
+    ensures { λ r. ⌜ r ≡ faults.firstBad (now (file .entry)) ⌝ }
+{
+    let n = file.len() / 32;
+    let sorted = ascending(file);
+    let mut i: usize = 0;
+    while i < n {
+        if record_bad(file, i, sorted) {
+            return i;
+        }
+        i += 1;
+    }
+    n
+}
+
+// The check of one file.
+fn check_file(file: &[u8]) -> Checked
+    ensures { λ r. ⌜ faults.answerOf r ≡ faults.fileAnswer (now (file .entry)) ⌝ }
+{
+    let size = tables::records(file.len(), 32, 0, 2000);
+    match size {
+        tables::RecordCount::Refused => Checked::Size,
+        tables::RecordCount::Whole(n) => {
+            let bad = first_bad(file);
+            if bad < n {
+                Checked::Record(bad)
+            } else {
+                Checked::Good
+            }
+        }
+    }
+}
+
+// The check of both files: the translation's refusal comes before the house file's.
+pub fn check(translation: &[u8], house: &[u8]) -> Checked
+    ensures { λ r. ⌜ faults.answerOf r ≡ faults.checkAnswer (now (translation .entry)) (now (house .entry)) ⌝ }
+{
+    let own = check_file(translation);
+    match own {
+        Checked::Good => check_file(house),
+        Checked::Size => Checked::Size,
+        Checked::Record(r) => Checked::Record(r),
+    }
+}
+
+// ---- labels
+
+// The record that has the text of an action, or the number of records.
+fn source(file: &[u8], action: u16) -> usize
+    ensures { λ r. ⌜ r ≡ labels.sourceOf (now (file .entry)) action ⌝ }
+{
+    let n = file.len() / 32;
+    let i = find(file, action);
+    if n <= i {
+        return n;
+    }
+    if kind_at(file, i) == 1 {
+        return find_lender(file, lender_at(file, i), 0);
+    }
+    i
+}
+
+// The part of a file that is the text of an action, or the empty part at the start.
+fn part(file: &[u8], action: u16) -> TextPart
+    ensures { λ r. ⌜ (r .offset ≡ labels.textOffset (now (file .entry)) action) × (r .size ≡ labels.textSize (now (file .entry)) action) ⌝ }
+{
+    let i = source(file, action);
+    if i < file.len() / 32 {
+        let size = text_length(file, i);
+        return TextPart {
+            offset: i * 32 + 8,
+            size,
+        };
+    }
+    TextPart { offset: 0, size: 0 }
+}
+
+// The text of an action in one file, in any condition: a part of the file, empty where there is none.
+pub fn text<'a>(file: &'a [u8], action: u16) -> &'a [u8]
+    ensures bytes { λ r. ⌜ now r ≡ labels.textOf (now (file .entry)) action ⌝ }
+    ensures part { λ r. ⌜ (r .ptr .0 ≡ file .entry .ptr .0) × (r .ptr .1 ≡ labels.textOffset (now (file .entry)) action + file .entry .ptr .1) ⌝ }
+{
+    let p = part(file, action);
+    let start = p.offset;
+    let size = p.size;
+    &file[start..start + size]
+}
+
+// Whether some record of a file has an action.
+fn has(file: &[u8], action: u16) -> bool
+    ensures { λ r. ⌜ r ≡ labels.has (now (file .entry)) action ⌝ }
+{
+    find(file, action) < file.len() / 32
+}
+
+// Whether neither file is faulty.
+fn both_good(translation: &[u8], house: &[u8]) -> bool
+    ensures { λ r. ⌜ r ≡ (faults.faultless (now (translation .entry)) && faults.faultless (now (house .entry))) ⌝ }
+{
+    let answer = check(translation, house);
+    match answer {
+        Checked::Good => true,
+        Checked::Size => false,
+        Checked::Record(_) => false,
+    }
+}
+
+// The place of an action's text in one file, which has the given number.
+fn place_in(file: &[u8], number: u32, action: u16) -> LabelPlace
+    requires { ⌜ records.count (now file) ≤ 2000 ⌝ }
+    ensures { λ r. ⌜ r ≡ labels.placeIn number (now (file .entry)) action ⌝ }
+{
+    let p = part(file, action);
+    let offset = p.offset;
+    let size = p.size;
+    LabelPlace {
+        file: number,
+        offset: offset as u32,
+        length: size as u32,
+    }
+}
+
+// The place of an action's label: all zero where a file is faulty or there is no record.
+pub fn place(translation: &[u8], house: &[u8], action: u16) -> LabelPlace
+    ensures place { λ r. ⌜ r ≡ labels.placeOf (now (translation .entry)) (now (house .entry)) action ⌝ }
+    ensures bytes { λ r. ⌜ labels.bytesAt (now (translation .entry)) (now (house .entry)) r ≡ labels.labelOf (now (translation .entry)) (now (house .entry)) action ⌝ }
+{
+    if !both_good(translation, house) {
+        return LabelPlace {
+            file: 0,
+            offset: 0,
+            length: 0,
+        };
+    }
+    if has(translation, action) {
+        return place_in(translation, 0, action);
+    }
+    if has(house, action) {
+        return place_in(house, 1, action);
+    }
+    LabelPlace {
+        file: 0,
+        offset: 0,
+        length: 0,
+    }
+}
+
+// The label of an action: a part of one of the files, empty where a file is faulty or there is no record.
+pub fn label<'a>(translation: &'a [u8], house: &'a [u8], action: u16) -> &'a [u8]
+    ensures bytes { λ r. ⌜ now r ≡ labels.labelOf (now (translation .entry)) (now (house .entry)) action ⌝ }
+    ensures part { λ r. let p = labels.placeOf (now (translation .entry)) (now (house .entry)) action in ⌜ (r .ptr .0 ≡ labels.fileOf (p .file) (translation .entry .ptr .0) (house .entry .ptr .0)) × (r .ptr .1 ≡ p .offset + labels.fileOf (p .file) (translation .entry .ptr .1) (house .entry .ptr .1)) ⌝ }
+{
+    let p = place(translation, house, action);
+    let start = p.offset as usize;
+    let size = p.length as usize;
+    if p.file == 0 {
+        return &translation[start..start + size];
+    }
+    &house[start..start + size]
+}

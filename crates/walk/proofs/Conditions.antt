@@ -1,0 +1,196 @@
+-- A granted load gives a loaded walk, and every call keeps a loaded walk loaded. A new walk is not loaded. Assumes nothing.
+use mathlib.Core.Path.{_≡_, refl, sym, ap, _∙_}
+use mathlib.Core.Bool.{Bool, true, false, cond, not, _&&_, _||_, false≢true}
+use mathlib.Core.Logic.{_⊎_, inl, inr}
+use mathlib.Core.List.{List, [], _∷_}
+use Prim.Native.Nat.{ℕ, _+_, _/_, _%_, _≤_, _<_, zero-le}
+use native.Mathlib.Nat.{lt-of-lt-of-le}
+use native.Mathlib.Omega.{arith}
+use lib.ListN.{getD, length}
+use lib.Dec.{eqb, ltb, leb}
+use borrow.Author.Tests.{lt-ltb, ltb-true, ltb-false, le-leb, not-false}
+use Rattle.bitset.specs.Sets.{member, within}
+use Rattle.bitset.proofs.Tests.{and-left, and-right, and-intro}
+use Rattle.bitset.proofs.Relations.{within-member, member-within}
+use Rattle.tables.specs.Sizes.{sized}
+use Rattle.tables.proofs.Entries.{before-first}
+use Rattle.net.specs.Step.{preOf, postOf, permits, moved, enabled, fired}
+use Rattle.net.specs.Table.{preAt, postAt, spareAt, transitions, netOf, placesGood, tableSized, recordBad}
+use Rattle.tables.specs.Lists.{first}
+use Rattle.tables.specs.Faults.{scanFault}
+use Rattle.net.specs.Answer.{none, fault, orElse, tableFault, loadFault}
+use Rattle.net.proofs.Answers.{load-passed, decoded-pre, decoded-post}
+use Rattle.net.proofs.Independence.{member-moved}
+use Rattle.walk.specs.declared.Walk.{Walk}
+use Rattle.walk.specs.State.{netIn, startedAt, movedTo, empty, setsWithin, transitionsGood, loaded}
+use Rattle.walk.specs.Calls.{granted, loadAnswer, loadWalk, fireAnswer, fireWalk, loadedAnswer, resetWalk}
+use Rattle.walk.specs.History.{Call, called, run}
+use Rattle.walk.specs.History.Call.{load, fire, reset}
+use Rattle.walk.proofs.Below.{all-in, all-by}
+use Rattle.walk.proofs.Walks.{Sound, loaded-sound, sound-loaded, answers}
+
+pub new-unloaded : loaded empty ≡ false
+unfolding loaded empty placesGood
+new-unloaded = refl
+
+-- ---- what a granted call has passed
+
+-- a load is granted where it meets none of 1, 2, 3 and 7
+load-none : (places m : ℕ) (bytes : List ℕ) → granted (loadAnswer places m bytes) ≡ true → none ≡ loadFault places m bytes
+unfolding loadAnswer loadFault tableFault scanFault granted
+load-none places m bytes =
+    let n = length bytes / 24 in
+    by (placesGood places) (sized 24 1 64 (length bytes)) (ltb (first (recordBad places bytes) n) n) (within places m) (first (recordBad places bytes) n)
+  where
+    by : (p s f w : Bool) (k : ℕ) → granted (cond p (orElse (cond s (cond f (fault 3 k) none) (fault 2 0)) (cond w none (fault 7 0))) (fault 1 0)) ≡ true
+        → none ≡ cond p (orElse (cond s (cond f (fault 3 k) none) (fault 2 0)) (cond w none (fault 7 0))) (fault 1 0)
+    by true true false true k e = refl
+    by true true false false k e = absurd (false≢true e)
+    by true true true w k e = absurd (false≢true e)
+    by true false f w k e = absurd (false≢true e)
+    by false s f w k e = absurd (false≢true e)
+
+-- a firing is granted where the walk is loaded and the transition is one of the net's, enabled, and the count is below 65,535
+pub fire-needs : (w : Walk) (t : ℕ) → granted (fireAnswer w t) ≡ true
+    → (loaded w ≡ true) × (t < w .transitions) × (enabled (netIn w) (w .present) t ≡ true) × (w .count < 65535)
+unfolding fireAnswer granted
+fire-needs w t e =
+    let r = by (loaded w) (ltb t (w .transitions)) (enabled (netIn w) (w .present) t) (ltb (w .count) 65535) e in
+    (r .0, ltb-true t (w .transitions) (r .1), r .2, ltb-true (w .count) 65535 (r .3))
+  where
+    by : (l n e f : Bool) → granted (cond l (cond n (cond e (cond f none (fault 42 0)) (fault 41 0)) (fault 8 0)) (fault 40 0)) ≡ true
+        → (l ≡ true) × (n ≡ true) × (e ≡ true) × (f ≡ true)
+    by true true true true e = (refl, refl, refl, refl)
+    by true true true false e = absurd (false≢true e)
+    by true true false f e = absurd (false≢true e)
+    by true false e f q = absurd (false≢true q)
+    by false n e f q = absurd (false≢true q)
+
+pub fire-grants : (w : Walk) (t : ℕ) → loaded w ≡ true → enabled (netIn w) (w .present) t ≡ true → w .count < 65535 → granted (fireAnswer w t) ≡ true
+unfolding granted
+fire-grants w t h p l = ap granted (answers w t true true true true h (named p) p (lt-ltb (w .count) 65535 l))
+  where
+    named : enabled (netIn w) (w .present) t ≡ true → ltb t (w .transitions) ≡ true
+    named q = unfold enabled netIn in and-left (ltb t (w .transitions)) (permits (getD (w .pre) t 0) (getD (w .post) t 0) (w .present)) q
+
+-- ---- load
+
+module _ (places m : ℕ) (bytes : List ℕ) (e : none ≡ loadFault places m bytes) where
+  count-good : transitionsGood (transitions bytes) ≡ true
+  unfolding transitionsGood transitions tableSized sized
+  count-good =
+      let h = load-passed places m bytes e .1 in
+      let n = length bytes / 24 in
+      and-intro (leb 1 n) (leb n 64) (and-right (eqb (length bytes % 24) 0) (leb 1 n) (and-left (eqb (length bytes % 24) 0 && leb 1 n) (leb n 64) h))
+      (and-right (eqb (length bytes % 24) 0 && leb 1 n) (leb n 64) h)
+
+  record-within : (t : ℕ) → t < transitions bytes → (within places (preAt bytes t) ≡ true) × (within places (postAt bytes t) ≡ true)
+  unfolding recordBad
+  record-within t l =
+      let good = not-false (within places (preAt bytes t) && within places (postAt bytes t) && eqb (spareAt bytes t) 0)
+      (load-passed places m bytes e .2 t l) in
+      let sets = and-left (within places (preAt bytes t) && within places (postAt bytes t)) (eqb (spareAt bytes t) 0) good in
+      (and-left (within places (preAt bytes t)) (within places (postAt bytes t)) sets, and-right (within places (preAt bytes t)) (within places (postAt bytes t)) sets)
+
+  entry-within : (t : ℕ) → t < transitions bytes → setsWithin places (netOf places bytes .pre) (netOf places bytes .post) t ≡ true
+  unfolding setsWithin
+  entry-within t l =
+      let whole = load-passed places m bytes e .1 in
+      let good = record-within t l in
+      and-intro (within places (preOf (netOf places bytes) t)) (within places (postOf (netOf places bytes) t))
+      (ap (within places) (decoded-pre places bytes whole t l) ∙ good .0)
+      (ap (within places) (decoded-post places bytes whole t l) ∙ good .1)
+
+  load-sound : Sound (startedAt (netOf places bytes) m)
+  unfolding startedAt netOf
+  load-sound =
+      let p = load-passed places m bytes e in
+      record {
+        places = p .0;
+        transitions = count-good;
+        sets = all-by (setsWithin places (netOf places bytes .pre) (netOf places bytes .post)) (transitions bytes) entry-within;
+        start = p .3;
+        present = p .3;
+        count = refl;
+      }
+
+pub load-loaded : (w : Walk) (places m : ℕ) (bytes : List ℕ) → granted (loadAnswer places m bytes) ≡ true → loaded (loadWalk w places m bytes) ≡ true
+unfolding loadWalk
+load-loaded w places m bytes h =
+    ap (λ b. loaded (cond b (startedAt (netOf places bytes) m) w)) h
+    ∙ sound-loaded (startedAt (netOf places bytes) m) (load-sound places m bytes (load-none places m bytes h))
+
+-- ---- fire and reset
+
+-- a firing leads from a marking within the places to another, where the post set is within them
+moved-within : (n pre post m : ℕ) → within n post ≡ true → within n m ≡ true → within n (moved pre post m) ≡ true
+moved-within n pre post m p q =
+    member-within n (moved pre post m)
+    (λ k h. by k (either (member m k && not (member pre k)) (member post k) (sym (member-moved pre post m k) ∙ h)))
+  where
+    either : (a b : Bool) → (a || b) ≡ true → (a ≡ true) ⊎ (b ≡ true)
+    either true b e = inl refl
+    either false b e = inr e
+
+    by : (k : ℕ) → ((member m k && not (member pre k)) ≡ true) ⊎ (member post k ≡ true) → k < n
+    by k (inl e) = within-member n m q k (and-left (member m k) (not (member pre k)) e)
+    by k (inr e) = within-member n post p k e
+
+moved-sound : (w : Walk) (m n : ℕ) → Sound w → within (w .places) m ≡ true → n ≤ 65535 → Sound (movedTo w m n)
+unfolding movedTo
+moved-sound w m n s p q =
+    record { places = s .places; transitions = s .transitions; sets = s .sets; start = s .start; present = p; count = le-leb n 65535 q }
+
+-- the marking after a transition of a loaded walk
+fired-within : (w : Walk) (t : ℕ) → Sound w → t < w .transitions → within (w .places) (fired (netIn w) (w .present) t) ≡ true
+unfolding fired netIn setsWithin
+fired-within w t s l =
+    moved-within (w .places) (getD (w .pre) t 0) (getD (w .post) t 0) (w .present)
+    (and-right (within (w .places) (getD (w .pre) t 0)) (within (w .places) (getD (w .post) t 0))
+    (all-in (setsWithin (w .places) (w .pre) (w .post)) (w .transitions) t (s .sets) l))
+    (s .present)
+
+pub fire-loaded : (w : Walk) (t : ℕ) → granted (fireAnswer w t) ≡ true → loaded (fireWalk w t) ≡ true
+unfolding fireWalk
+fire-loaded w t h =
+    let r = fire-needs w t h in
+    let s = loaded-sound w (r .0) in
+    let most : w .count + 1 ≤ 65535 = omega (arith, r .3) in
+    ap (λ b. loaded (cond b (movedTo w (fired (netIn w) (w .present) t) (w .count + 1)) w)) h
+    ∙ sound-loaded (movedTo w (fired (netIn w) (w .present) t) (w .count + 1))
+    (moved-sound w (fired (netIn w) (w .present) t) (w .count + 1) s (fired-within w t s (r .1)) most)
+
+reset-needs : (w : Walk) → granted (loadedAnswer w) ≡ true → loaded w ≡ true
+unfolding loadedAnswer granted
+reset-needs w = by (loaded w)
+  where
+    by : (l : Bool) → granted (cond l none (fault 40 0)) ≡ true → l ≡ true
+    by true e = refl
+    by false e = absurd (false≢true e)
+
+pub reset-loaded : (w : Walk) → granted (loadedAnswer w) ≡ true → loaded (resetWalk w) ≡ true
+unfolding resetWalk
+reset-loaded w h =
+    let s = loaded-sound w (reset-needs w h) in
+    ap (λ b. loaded (cond b (movedTo w (w .start) 0) w)) h
+    ∙ sound-loaded (movedTo w (w .start) 0) (moved-sound w (w .start) 0 s (s .start) zero-le)
+
+-- ---- any sequence of calls
+
+-- a call that is granted gives a loaded walk, and one that is refused gives the walk back
+kept : (w v : Walk) → loaded w ≡ true → (b : Bool) → (b ≡ true → loaded (cond b v w) ≡ true) → loaded (cond b v w) ≡ true
+kept w v h true g = g refl
+kept w v h false g = h
+
+pub called-loaded : (w : Walk) (c : Call) → loaded w ≡ true → loaded (called w c) ≡ true
+unfolding called loadWalk fireWalk resetWalk
+called-loaded w (load places m bytes) h =
+    kept w (startedAt (netOf places bytes) m) h (granted (loadAnswer places m bytes)) (load-loaded w places m bytes)
+called-loaded w (fire t) h =
+    kept w (movedTo w (fired (netIn w) (w .present) t) (w .count + 1)) h (granted (fireAnswer w t)) (fire-loaded w t)
+called-loaded w reset h = kept w (movedTo w (w .start) 0) h (granted (loadedAnswer w)) (reset-loaded w)
+
+pub run-loaded : (w : Walk) (cs : List Call) → loaded w ≡ true → loaded (run w cs) ≡ true
+unfolding run
+run-loaded w [] h = h
+run-loaded w (c ∷ cs) h = run-loaded (called w c) cs (called-loaded w c h)

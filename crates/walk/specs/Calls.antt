@@ -1,0 +1,66 @@
+-- What each call of a walk answers, by document 01's numbers, and the walk after it ("The walk", "Refused because of the state").
+-- A refused call leaves the walk as it came. Assumes nothing.
+use Prim.Native.Nat.{ℕ, _+_}
+use mathlib.Core.Bool.{Bool, cond}
+use mathlib.Core.List.{List}
+use lib.Dec.{eqb, ltb}
+use Rattle.net.specs.Step.{enabled, fired}
+use Rattle.net.specs.Table.{netOf}
+use Rattle.net.specs.Answer.{Fault, none, fault, refusal, loadFault}
+use Rattle.walk.specs.declared.Walk.{Walk}
+use Rattle.walk.specs.declared.Answer.{Answer}
+use Rattle.walk.specs.declared.Answer.the-variants.{Granted, Unloaded, Refused, Full}
+use Rattle.walk.specs.State.{netIn, startedAt, movedTo, loaded}
+
+-- document 01's number and record of each answer; 0 where the call is granted
+unfoldable pub answerOf : Answer → Fault
+unfolding refusal
+answerOf Granted = none
+answerOf Unloaded = fault 40 0
+answerOf (Refused r) = refusal r
+answerOf Full = fault 42 0
+
+-- the call is granted
+unfoldable pub granted : Fault → Bool
+granted f = eqb (f .number) 0
+
+-- ---- load
+
+-- 1 (places), 2, 3 and 7
+unfoldable pub loadAnswer : ℕ → ℕ → List ℕ → Fault
+loadAnswer places m bytes = loadFault places m bytes
+
+-- the walk with its own copy of the net, whatever was loaded before
+unfoldable pub loadWalk : Walk → ℕ → ℕ → List ℕ → Walk
+loadWalk w places m bytes = cond (granted (loadAnswer places m bytes)) (startedAt (netOf places bytes) m) w
+
+-- ---- fire
+
+-- 40 nothing loaded; then 8; 41 transition not enabled; 42 count at 65,535
+unfoldable pub fireAnswer : Walk → ℕ → Fault
+fireAnswer w t =
+    cond (loaded w)
+    (cond (ltb t (w .transitions)) (cond (enabled (netIn w) (w .present) t) (cond (ltb (w .count) 65535) none (fault 42 0)) (fault 41 0)) (fault 8 0))
+    (fault 40 0)
+
+-- the marking after t, and one more firing
+unfoldable pub fireWalk : Walk → ℕ → Walk
+fireWalk w t = cond (granted (fireAnswer w t)) (movedTo w (fired (netIn w) (w .present) t) (w .count + 1)) w
+
+-- ---- reset and read
+
+-- 40 nothing loaded
+unfoldable pub loadedAnswer : Walk → Fault
+loadedAnswer w = cond (loaded w) none (fault 40 0)
+
+-- the start marking again, count 0
+unfoldable pub resetWalk : Walk → Walk
+resetWalk w = cond (granted (loadedAnswer w)) (movedTo w (w .start) 0) w
+
+-- the present marking; 0 where the call is refused
+unfoldable pub readMarking : Walk → ℕ
+readMarking w = cond (granted (loadedAnswer w)) (w .present) 0
+
+-- the count; 0 where the call is refused
+unfoldable pub readCount : Walk → ℕ
+readCount w = cond (granted (loadedAnswer w)) (w .count) 0

@@ -1,0 +1,199 @@
+// The walk: a net of its own, a start marking, the present marking and the count of firings since load or reset.
+ghost use mathlib.Core.Path.{_≡_};
+ghost use Prim.Native.Nat.{_≤_};
+ghost use Rattle.walk.specs.State as state;
+ghost use Rattle.walk.specs.Calls as says;
+use net::Checked;
+use net::Refusal;
+
+// The most firings that a walk counts.
+const MOST: u32 = 65535;
+
+// A walk by value. Being loaded is a condition of the fields (`loaded` of specs/); entries from transitions on are not looked at.
+pub struct Walk {
+    pub places: u32,
+    pub transitions: u32,
+    pub pre: [u64; 64],
+    pub post: [u64; 64],
+    pub action: [u16; 64],
+    pub start: u64,
+    pub present: u64,
+    pub count: u32,
+}
+
+// What a call answers. `answerOf` of specs/ has document 01's numbers.
+pub enum Answer {
+    Granted,
+    Unloaded,
+    Refused(Refusal),
+    Full,
+}
+
+// The answer of load, fire and reset, and the walk after the call; a refused call gives the walk back as it came.
+pub struct Outcome {
+    pub answer: Answer,
+    pub walk: Walk,
+}
+
+// The answer of read: the present marking and the count, both 0 where it is refused.
+pub struct Reading {
+    pub answer: Answer,
+    pub marking: u64,
+    pub count: u32,
+}
+
+// Whether the sets of each transition lie within the places.
+fn sets_within<'a>(places: u32, transitions: u32, pre: &'a [u64; 64], post: &'a [u64; 64]) -> bool
+    requires { ⌜ transitions ≤ 64 ⌝ }
+    ensures { λ r. ⌜ r ≡ state.allBelow (state.setsWithin places (now (pre .entry)) (now (post .entry))) transitions ⌝ }
+{
+    let mut t: u32 = 0;
+    while t < transitions {
+        let i = t as usize;
+        if !(bitset::within(places, pre[i]) & bitset::within(places, post[i])) {
+            return false;
+        }
+        t += 1;
+    }
+    true
+}
+
+// Whether the walk is loaded.
+fn loaded(walk: Walk) -> bool
+    ensures { λ r. ⌜ r ≡ state.loaded walk ⌝ }
+{
+    let places = walk.places;
+    let transitions = walk.transitions;
+    if !((1 <= places) & (places <= 64) & ((1 <= transitions) & (transitions <= 64))) {
+        return false;
+    }
+    sets_within(places, transitions, &walk.pre, &walk.post)
+        & bitset::within(places, walk.start)
+        & bitset::within(places, walk.present)
+        & (walk.count <= MOST)
+}
+
+impl Walk {
+    // A new walk: all zero, and so not loaded.
+    pub fn new() -> Walk
+        ensures { λ r. ⌜ r ≡ state.empty ⌝ }
+    {
+        Walk {
+            places: 0,
+            transitions: 0,
+            pre: [0u64; 64],
+            post: [0u64; 64],
+            action: [0u16; 64],
+            start: 0,
+            present: 0,
+            count: 0,
+        }
+    }
+
+    // Loads a net with a marking, whatever was loaded before: granted, or the first of 1 (places), 2, 3 and 7.
+    pub fn load(self, places: u32, marking: u64, net: &[u8]) -> Outcome
+        ensures { λ r. ⌜ (says.answerOf (r .answer) ≡ says.loadAnswer places marking (now (net .entry))) × (r .walk ≡ says.loadWalk self places marking (now (net .entry))) ⌝ }
+    {
+        if let Checked::Refused(why) = net::check_load(places, marking, net) {
+            return Outcome {
+                answer: Answer::Refused(why),
+                walk: self,
+            };
+        }
+        let decoded = net::decode(places, net);
+        let pre = decoded.pre;
+        let post = decoded.post;
+        let action = decoded.action;
+        let walk = Walk {
+            places: decoded.places,
+            transitions: decoded.count,
+            pre,
+            post,
+            action,
+            start: marking,
+            present: marking,
+            count: 0,
+        };
+        Outcome {
+            answer: Answer::Granted,
+            walk,
+        }
+    }
+
+    // Fires a transition: granted, or the first of 40, 8, 41 and 42.
+    pub fn fire(self, transition: u32) -> Outcome
+        ensures { λ r. ⌜ (says.answerOf (r .answer) ≡ says.fireAnswer self transition) × (r .walk ≡ says.fireWalk self transition) ⌝ }
+    {
+        if !loaded(self) {
+            return Outcome {
+                answer: Answer::Unloaded,
+                walk: self,
+            };
+        }
+        if self.transitions <= transition {
+            return Outcome {
+                answer: Answer::Refused(Refusal::Absent),
+                walk: self,
+            };
+        }
+        let t = transition as usize;
+        let pre = self.pre[t];
+        let post = self.post[t];
+        if !net::enabled(pre, post, self.present) {
+            return Outcome {
+                answer: Answer::Refused(Refusal::Disabled),
+                walk: self,
+            };
+        }
+        if MOST <= self.count {
+            return Outcome {
+                answer: Answer::Full,
+                walk: self,
+            };
+        }
+        let mut next = self;
+        next.present = net::fired(pre, post, self.present);
+        next.count = self.count + 1;
+        Outcome {
+            answer: Answer::Granted,
+            walk: next,
+        }
+    }
+
+    // The start marking again, with the count at 0: granted, or 40.
+    pub fn reset(self) -> Outcome
+        ensures { λ r. ⌜ (says.answerOf (r .answer) ≡ says.loadedAnswer self) × (r .walk ≡ says.resetWalk self) ⌝ }
+    {
+        if !loaded(self) {
+            return Outcome {
+                answer: Answer::Unloaded,
+                walk: self,
+            };
+        }
+        let mut again = self;
+        again.present = self.start;
+        again.count = 0;
+        Outcome {
+            answer: Answer::Granted,
+            walk: again,
+        }
+    }
+
+    // The present marking and the count: granted, or 40 with both 0.
+    pub fn read(self) -> Reading
+        ensures { λ r. ⌜ (says.answerOf (r .answer) ≡ says.loadedAnswer self) × (r .marking ≡ says.readMarking self) × (r .count ≡ says.readCount self) ⌝ }
+    {
+        if !loaded(self) {
+            return Reading {
+                answer: Answer::Unloaded,
+                marking: 0,
+                count: 0,
+            };
+        }
+        Reading {
+            answer: Answer::Granted,
+            marking: self.present,
+            count: self.count,
+        }
+    }
+}
