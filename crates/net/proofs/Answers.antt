@@ -24,7 +24,7 @@ use Rattle.net.proofs.Loops.{enabled-in}
 -- ---- 1 and 7
 
 -- each refusal has a number
-refusal-number : (r : Refusal) → eqb (refusal r .number) 0 ≡ false
+pub refusal-number : (r : Refusal) → eqb (refusal r .number) 0 ≡ false
 unfolding refusal
 refusal-number Places = refl
 refusal-number Size = refl
