@@ -7,8 +7,12 @@ use mathlib.Core.List.{List, [], _∷_, _++_, map}
 use Rattle.net.specs.declared.Net.{Net}
 use Rattle.net.specs.Step.{conflict, conflicts}
 use Rattle.net.specs.Table.{netOf}
-use Rattle.net.specs.Answer.{Answer, firing}
-use Rattle.samples.specs.Tables.{transition, netR}
+use Rattle.net.specs.Answer.{Answer, Fault, firing}
+use Rattle.walk.specs.declared.Walk.{Walk}
+use Rattle.walk.specs.State.{empty}
+use Rattle.walk.specs.Calls.{loadWalk, fireAnswer, fireWalk, readMarking, readCount}
+use Rattle.checker.specs.Outcomes.{Outcome, checkOutcome}
+use Rattle.samples.specs.Tables.{transition, netR, formulasR, ask, treeR, treeFails}
 
 pub record Sample : Type 0 where
   pub gives : List ℕ
@@ -18,11 +22,28 @@ pub record Sample : Type 0 where
 unfoldable pub fired : Answer → List ℕ
 fired a = a .refused .number ∷ a .refused .place ∷ a .marking ∷ []
 
+-- the number and the record that a walk answers
+unfoldable pub told : Fault → List ℕ
+told f = f .number ∷ f .place ∷ []
+
+-- what reading a walk gives: the present marking and the count
+unfoldable pub readFrom : Walk → List ℕ
+readFrom w = readMarking w ∷ readCount w ∷ []
+
+-- a walk that has R loaded, with 3 places at marking 3
+unfoldable pub walkR : Walk
+unfolding netR
+walkR = loadWalk empty 3 3 netR
+
+-- accepted 0, refused 1, broken 2; the number; the nodes, the record or the node
+unfoldable pub judged : Outcome → List ℕ
+judged o = o .word ∷ o .number ∷ o .place ∷ []
+
 unfoldable pub yes-or-no : Bool → ℕ
 yes-or-no b = cond b 1 0
 
 unfoldable pub starred : List Sample
-unfolding fired yes-or-no transition netR
+unfolding fired told readFrom walkR judged yes-or-no transition netR ask formulasR treeR treeFails
 starred =
     -- 1→2 at 1 gives 2
     record { gives = fired (firing 2 1 (transition 1 2 0) 0); says = 0 ∷ 0 ∷ 2 ∷ [] }
@@ -34,6 +55,22 @@ starred =
     ∷ record { gives = map (conflicts (netOf 1 (transition 0 0 0 ++ transition 1 1 0 ++ transition 0 0 0))) (0 ∷ 2 ∷ []); says = 1 ∷ 4 ∷ [] }
     -- R: t0 and t1 are independent; t1 and t2 conflict
     ∷ record { gives = yes-or-no (conflict (netOf 3 netR) 0 1) ∷ yes-or-no (conflict (netOf 3 netR) 1 2) ∷ []; says = 0 ∷ 1 ∷ [] }
+    -- fire 0 unloaded: 40
+    ∷ record { gives = told (fireAnswer empty 0); says = 40 ∷ 0 ∷ [] }
+    -- R: fire 3: 8
+    ∷ record { gives = told (fireAnswer walkR 3); says = 8 ∷ 0 ∷ [] }
+    -- R: fire 2: 41
+    ∷ record { gives = told (fireAnswer walkR 2); says = 41 ∷ 0 ∷ [] }
+    -- R: fire 1: marking 5, count 1
+    ∷ record { gives = told (fireAnswer walkR 1) ++ readFrom (fireWalk walkR 1); says = 0 ∷ 0 ∷ 5 ∷ 1 ∷ [] }
+    -- R holds 2: accepted nodes 23
+    ∷ record { gives = judged (checkOutcome (ask 3 2 3 0) netR formulasR treeR); says = 0 ∷ 0 ∷ 23 ∷ [] }
+    -- R fails 2, node 3 keeping 2: broken 24 at 3
+    ∷ record { gives = judged (checkOutcome (ask 3 2 3 1) netR formulasR (treeFails 3 3 2)); says = 2 ∷ 24 ∷ 3 ∷ [] }
+    -- node 3 keeping 0: broken 26 at 1
+    ∷ record { gives = judged (checkOutcome (ask 3 2 3 1) netR formulasR (treeFails 3 3 0)); says = 2 ∷ 26 ∷ 1 ∷ [] }
+    -- only place 0 and t0, marking 1, node 3 keeping 0: accepted nodes 4
+    ∷ record { gives = judged (checkOutcome (ask 1 2 1 1) (transition 1 1 1) formulasR (treeFails 1 1 0)); says = 0 ∷ 0 ∷ 4 ∷ [] }
     ∷ []
 
 -- each row gives what document 01 says

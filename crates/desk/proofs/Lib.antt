@@ -1,0 +1,2 @@
+-- The laws that the proofs of `desk` cite.
+pub mod Accepted

@@ -1,0 +1,20 @@
+-- `desk::desk_fire` meets its contract. Assumes nothing.
+use mathlib.Core.Path.{ap, _∙_}
+use borrow.Author.Needs.{needs}
+use Rattle.net.specs.Answer.{Answer}
+use Rattle.desk.proofs.desk_fire.Statement.{statement}
+use Rattle.desk.proofs.desk_fire.Tie as tie
+
+fire-requires : tie.Need-fire-requires
+fire-requires c κs = search needs
+
+firing-numbers-requires : tie.Need-firing-numbers-requires
+firing-numbers-requires c κs = search needs
+
+returns : tie.Need-returns
+returns c = let e = c .before .fire .ensures in
+    let n = c .firing-numbers .ensures in
+    (n .0 ∙ ap (λ (a : Answer). a .refused .number) e, n .1 ∙ ap (λ (a : Answer). a .refused .place) e, n .2 ∙ ap (λ (a : Answer). a .marking) e)
+
+pub desk-fire-spec : {M : Type 1} → statement M
+desk-fire-spec = tie.close (tie.spec fire-requires firing-numbers-requires returns)

@@ -1,0 +1,1 @@
+-- `desk` cites the definitions of net, category and checker.

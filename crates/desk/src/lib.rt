@@ -1,0 +1,120 @@
+// The desk terminal's functions for C: the tree check, the single firing, the check of two category files and the place of a label.
+// Each out-parameter is written at every call.
+ghost use mathlib.Core.Path.{_≡_};
+ghost use lib.ListN.{take, drop};
+ghost use Rattle.net.specs.Answer as firings;
+ghost use Rattle.category.specs.Faults as categories;
+ghost use Rattle.category.specs.Labels as labels;
+ghost use Rattle.checker.specs.Outcomes as outcomes;
+use category::Checked;
+use checker::Verdict;
+
+// An answer in document 01's numbers: 0 where granted; the record, the node or the number of nodes.
+struct Numbers {
+    number: u32,
+    place: u64,
+}
+
+// The tree check's number and place.
+fn verdict_numbers(v: Verdict) -> Numbers
+    ensures { λ r. ⌜ (r .number ≡ outcomes.verdict v .number) × (r .place ≡ outcomes.verdict v .place) ⌝ }
+{
+    match v {
+        Verdict::Accepted(nodes) => Numbers {
+            number: 0,
+            place: nodes as u64,
+        },
+        Verdict::Refused(number, record) => Numbers {
+            number: number as u32,
+            place: record as u64,
+        },
+        Verdict::Broken(fault, node) => Numbers {
+            number: fault as u32,
+            place: node as u64,
+        },
+    }
+}
+
+// The category check's number and record.
+fn category_numbers(answer: Checked) -> Numbers
+    ensures { λ r. ⌜ (r .number ≡ categories.answerOf answer .0) × (r .place ≡ categories.answerOf answer .1) ⌝ }
+{
+    match answer {
+        Checked::Good => Numbers {
+            number: 0,
+            place: 0,
+        },
+        Checked::Size => Numbers {
+            number: 9,
+            place: 0,
+        },
+        Checked::Record(record) => Numbers {
+            number: 10,
+            place: record as u64,
+        },
+    }
+}
+
+// Checks a tree: 0 with the number of nodes, a refusal with its record, or a fault with its node. At 0 the ask's claim is true.
+#[no_mangle]
+pub extern "C" fn desk_check(
+    ask: &[u8],
+    net: &[u8],
+    formulas: &[u8],
+    tree: &[u8],
+    place: &mut u64,
+) -> u32
+    ensures answer { λ r. let o = outcomes.checkOutcome (now (ask .entry)) (now (net .entry)) (now (formulas .entry)) (now (tree .entry)) in ⌜ (r ≡ o .number) × (now (place .exit) ≡ o .place) ⌝ }
+    ensures claim { λ r. ⌜ (r ≡ 0 → outcomes.AskClaim (now (ask .entry)) (now (net .entry)) (now (formulas .entry))) ⌝ }
+{
+    let outcome = verdict_numbers(checker::check(ask, net, formulas, tree));
+    *place = outcome.place;
+    outcome.number
+}
+
+// Fires one transition: 0 with the marking after, or the refusal with its record and marking 0.
+#[no_mangle]
+pub extern "C" fn desk_fire(
+    places: u32,
+    marking: u64,
+    net: &[u8],
+    transition: u32,
+    record: &mut u64,
+    after: &mut u64,
+) -> u32
+    ensures { λ r. let f = firings.firing places marking (now (net .entry)) transition in ⌜ (r ≡ f .refused .number) × (now («record» .exit) ≡ f .refused .place) × (now (after .exit) ≡ f .marking) ⌝ }
+{
+    let fired = net::firing_numbers(net::fire(places, marking, net, transition));
+    *record = fired.place;
+    *after = fired.marking;
+    fired.number
+}
+
+// Checks the two category files: 0, or 9 or 10 with the record.
+#[no_mangle]
+pub extern "C" fn desk_categories(translation: &[u8], house: &[u8], record: &mut u64) -> u32
+    ensures { λ r. let a = categories.checkAnswer (now (translation .entry)) (now (house .entry)) in ⌜ (r ≡ a .0) × (now («record» .exit) ≡ a .1) ⌝ }
+{
+    let found = category_numbers(category::check(translation, house));
+    *record = found.place;
+    found.number
+}
+
+// The place of an action's label: file 0 is the translation and 1 the house file; all zero for no label.
+#[no_mangle]
+pub extern "C" fn desk_label(
+    translation: &[u8],
+    house: &[u8],
+    action: u16,
+    file: &mut u32,
+    offset: &mut u32,
+    length: &mut u32,
+)
+    ensures place { λ _. let p = labels.placeOf (now (translation .entry)) (now (house .entry)) action in ⌜ (now (file .exit) ≡ p .file) × (now (offset .exit) ≡ p .offset) × (now (length .exit) ≡ p .length) ⌝ }
+    ensures bytes { λ _. ⌜ take (now (length .exit)) (drop (now (offset .exit)) (labels.fileOf (now (file .exit)) (now (translation .entry)) (now (house .entry)))) ≡ labels.labelOf (now (translation .entry)) (now (house .entry)) action ⌝ }
+{
+    let place = category::place(translation, house, action);
+    *file = place.file;
+    *offset = place.offset;
+    *length = place.length;
+}

@@ -1,0 +1,310 @@
+// The samples of category files. A line has a name, the check's number and record, the label's file, offset and length, and its bytes.
+ghost use mathlib.Core.Path.{_≡_};
+ghost use Rattle.category.specs.Faults as faults;
+use super::nets::end;
+use super::nets::number;
+use category::Checked;
+use libc::STDOUT_FILENO;
+
+// ---- one line
+
+// Document 01's number of a check's answer, and the record.
+struct CheckNumbers {
+    number: u64,
+    record: usize,
+}
+
+// An answer of a check in document 01's numbers.
+fn numbers(answer: Checked) -> CheckNumbers
+    ensures { λ r. ⌜ (r .number, r .record) ≡ faults.answerOf answer ⌝ }
+{
+    match answer {
+        Checked::Good => CheckNumbers {
+            number: 0,
+            record: 0,
+        },
+        Checked::Size => CheckNumbers {
+            number: 9,
+            record: 0,
+        },
+        Checked::Record(record) => CheckNumbers { number: 10, record },
+    }
+}
+
+// Prints each byte as a number.
+fn bytes(text: &[u8]) {
+    let mut i: usize = 0;
+    while i < text.len() {
+        number(wide(text[i]));
+        i += 1;
+    }
+}
+
+// A byte as a number of 64 bits.
+fn wide(b: u8) -> u64
+    ensures { λ r. ⌜ r ≡ b ⌝ }
+{
+    b as u64
+}
+
+// Checks a translation and a house file, looks an action's label up, and prints what comes.
+fn sample<'a>(name: &[u8], translation: &'a [u8], house: &'a [u8], action: u16) {
+    let said = numbers(category::check(translation, house));
+    let place = category::place(translation, house, action);
+    io::write_all(STDOUT_FILENO, b"label, ");
+    io::write_all(STDOUT_FILENO, name);
+    number(said.number);
+    number(said.record as u64);
+    number(place.file as u64);
+    number(place.offset as u64);
+    number(place.length as u64);
+    bytes(category::label(translation, house, action));
+    end();
+}
+
+// ---- files
+
+// Writes a text into a file, as far as the file goes.
+fn put_text(file: &mut [u8], at: usize, text: &[u8]) {
+    let mut k = at;
+    let mut j: usize = 0;
+    while j < text.len() {
+        if file.len() <= k {
+            return;
+        }
+        file[k] = text[j];
+        k += 1;
+        j += 1;
+    }
+}
+
+// Writes the fields of record i of a file; its spare bytes stay.
+fn put(file: &mut [u8], i: usize, action: u16, kind: u8, lender: u16, text: &[u8]) {
+    if file.len() / 32 <= i {
+        return;
+    }
+    let at = i * 32;
+    file[at] = (action % 256) as u8;
+    file[at + 1] = (action / 256) as u8;
+    file[at + 2] = kind;
+    file[at + 4] = (lender % 256) as u8;
+    file[at + 5] = (lender / 256) as u8;
+    put_text(file, at + 8, text);
+}
+
+// Writes n records: actions from 0 on, each text one letter, A to Z in turn.
+fn fill(file: &mut [u8], n: u16) {
+    let mut i: u16 = 0;
+    while i < n {
+        let letter = [65 + (i % 26) as u8];
+        put(file, i as usize, i, 0, 0, &letter);
+        i += 1;
+    }
+}
+
+// ---- labels
+
+// A label of one file or of both.
+fn own() {
+    let mut translation = [0u8; 32];
+    let mut house = [0u8; 64];
+    put(&mut translation, 0, 5, 0, 0, b"Go");
+    put(&mut house, 0, 5, 0, 0, b"No");
+    put(&mut house, 1, 600, 0, 0, b"Up");
+    sample(b"in both:", &translation, &house, 5);
+    sample(b"missing in the translation:", &translation, &house, 600);
+    sample(b"missing in the house file:", &house, &translation, 600);
+    sample(b"missing in both:", &translation, &house, 6);
+}
+
+// Files of no records.
+fn no_records() {
+    let mut file = [0u8; 32];
+    put(&mut file, 0, 5, 0, 0, b"Go");
+    sample(b"no translation:", b"", &file, 5);
+    sample(b"no house file:", &file, b"", 5);
+    sample(b"no records:", b"", b"", 5);
+}
+
+// Borrowed labels: the lender stands before or behind, in the same file.
+fn borrowed() {
+    let mut back = [0u8; 64];
+    let mut ahead = [0u8; 64];
+    put(&mut back, 0, 5, 0, 0, b"Go");
+    put(&mut back, 1, 7, 1, 5, b"");
+    put(&mut ahead, 0, 5, 1, 7, b"");
+    put(&mut ahead, 1, 7, 0, 0, b"No");
+    sample(b"borrowed:", &back, &ahead, 7);
+    sample(b"borrowed from behind:", &ahead, &back, 5);
+    sample(b"borrowed in the house file:", b"", &back, 7);
+}
+
+// ---- faulty records
+
+// A translation of one record, of action 5.
+fn single(name: &[u8], kind: u8, lender: u16, text: &[u8]) {
+    let mut file = [0u8; 32];
+    put(&mut file, 0, 5, kind, lender, text);
+    sample(name, &file, b"", 5);
+}
+
+// Texts, good and faulty.
+fn texts() {
+    single(b"text of 24 bytes:", 0, 0, b"ABCDEFGHIJKLMNOPQRSTUVWX");
+    single(b"byte 0x1F:", 0, 0, b"\x1F");
+    single(b"bytes 0x20 and 0x7E:", 0, 0, b"\x20\x7E");
+    single(b"byte 0x7F:", 0, 0, b"A\x7F");
+    single(b"byte 0x80:", 0, 0, b"A\x80");
+    single(b"byte 0x9F:", 0, 0, b"A\x9F");
+    single(b"bytes 0xA0 and 0xFF:", 0, 0, b"\xA0\xFF");
+    single(b"no text:", 0, 0, b"");
+    single(b"a byte behind a zero byte:", 0, 0, b"A\0B");
+}
+
+// Kinds and lenders of one record.
+fn kinds() {
+    single(b"own text and a lender:", 0, 5, b"Go");
+    single(b"kind 2:", 2, 0, b"Go");
+    single(b"lender is the record itself:", 1, 5, b"");
+    single(b"lender missing:", 1, 9, b"");
+}
+
+// A lender of kind 1, and a faulty lender, which is then the only faulty record.
+fn lenders() {
+    let mut chain = [0u8; 96];
+    let mut other = [0u8; 64];
+    put(&mut chain, 0, 5, 0, 0, b"Go");
+    put(&mut chain, 1, 6, 1, 5, b"");
+    put(&mut chain, 2, 7, 1, 6, b"");
+    sample(b"lender of kind 1:", &chain, b"", 7);
+    put(&mut other, 0, 5, 1, 7, b"");
+    put(&mut other, 1, 7, 0, 0, b"\x7F");
+    sample(b"faulty lender:", &other, b"", 5);
+}
+
+// A lender of the other file, and a borrower with a text.
+fn more_lenders() {
+    let mut lender = [0u8; 32];
+    let mut borrower = [0u8; 32];
+    let mut both = [0u8; 64];
+    put(&mut lender, 0, 9, 0, 0, b"No");
+    put(&mut borrower, 0, 5, 1, 9, b"");
+    sample(b"lender in the other file:", &borrower, &lender, 5);
+    put(&mut both, 0, 5, 0, 0, b"Go");
+    put(&mut both, 1, 7, 1, 5, b"No");
+    sample(b"borrowed and a text:", &both, b"", 7);
+}
+
+// Actions that do not ascend.
+fn actions() {
+    let mut equal = [0u8; 64];
+    let mut falling = [0u8; 64];
+    put(&mut equal, 0, 5, 0, 0, b"Go");
+    put(&mut equal, 1, 5, 0, 0, b"No");
+    sample(b"equal actions:", &equal, b"", 5);
+    put(&mut falling, 0, 600, 0, 0, b"Go");
+    put(&mut falling, 1, 5, 0, 0, b"No");
+    sample(b"falling actions:", &falling, b"", 600);
+}
+
+// A record with these spare bytes, behind a good record.
+fn spare(name: &[u8], third: u8, sixth: u8, seventh: u8) {
+    let mut file = [0u8; 64];
+    put(&mut file, 0, 5, 0, 0, b"Go");
+    put(&mut file, 1, 7, 0, 0, b"No");
+    file[35] = third;
+    file[38] = sixth;
+    file[39] = seventh;
+    sample(name, &file, b"", 7);
+}
+
+// Each spare byte.
+fn spares() {
+    spare(b"spare bytes 0:", 0, 0, 0);
+    spare(b"spare byte 3:", 1, 0, 0);
+    spare(b"spare byte 6:", 0, 1, 0);
+    spare(b"spare byte 7:", 0, 0, 1);
+}
+
+// ---- two files
+
+// Either faulty file hides the labels of both.
+fn hidden() {
+    let mut good = [0u8; 32];
+    let mut bad = [0u8; 32];
+    put(&mut good, 0, 5, 0, 0, b"Go");
+    put(&mut bad, 0, 6, 2, 0, b"No");
+    sample(b"faulty translation, in the house file:", &bad, &good, 5);
+    sample(b"faulty house file, in the translation:", &good, &bad, 5);
+}
+
+// Lengths that are no whole number of records.
+fn lengths() {
+    let mut file = [0u8; 33];
+    put(&mut file, 0, 5, 0, 0, b"Go");
+    sample(b"translation of 33 bytes:", &file, b"", 5);
+    sample(b"house file of 33 bytes:", b"", &file, 5);
+    sample(b"31 bytes:", &[0u8; 31], b"", 5);
+}
+
+// The translation's refusal comes before the house file's.
+fn first_fault() {
+    let mut equal = [0u8; 64];
+    let long = [0u8; 33];
+    let empty = [0u8; 32];
+    put(&mut equal, 0, 5, 0, 0, b"Go");
+    put(&mut equal, 1, 5, 0, 0, b"No");
+    sample(b"equal actions, house file of 33 bytes:", &equal, &long, 5);
+    sample(
+        b"33 bytes, equal actions in the house file:",
+        &long,
+        &equal,
+        5,
+    );
+    sample(
+        b"equal actions, no text in the house file:",
+        &equal,
+        &empty,
+        5,
+    );
+    sample(
+        b"no text, equal actions in the house file:",
+        &empty,
+        &equal,
+        5,
+    );
+}
+
+// The most records.
+fn most() {
+    let mut file = [0u8; 64000];
+    fill(&mut file, 2000);
+    sample(b"2000 records:", &file, b"", 1999);
+    sample(b"2000 records in the house file:", b"", &file, 27);
+}
+
+// One record more.
+fn too_many() {
+    let mut file = [0u8; 64032];
+    fill(&mut file, 2001);
+    sample(b"2001 records:", &file, b"", 1999);
+    sample(b"2001 records in the house file:", b"", &file, 27);
+}
+
+// All samples of category files.
+pub fn run() {
+    own();
+    no_records();
+    borrowed();
+    texts();
+    kinds();
+    lenders();
+    more_lenders();
+    actions();
+    spares();
+    hidden();
+    lengths();
+    first_fault();
+    most();
+    too_many();
+}

@@ -1,0 +1,123 @@
+//! The C interface of the archive under test, as plain functions. Out-parameters
+//! start with values that no call gives, so that one left unwritten shows.
+
+mod c {
+    unsafe extern "C" {
+        pub fn desk_check(
+            ask: *const u8,
+            ask_len: usize,
+            net: *const u8,
+            net_len: usize,
+            formulas: *const u8,
+            formulas_len: usize,
+            tree: *const u8,
+            tree_len: usize,
+            place: *mut u64,
+        ) -> u32;
+        pub fn desk_fire(
+            places: u32,
+            marking: u64,
+            net: *const u8,
+            net_len: usize,
+            transition: u32,
+            record: *mut u64,
+            after: *mut u64,
+        ) -> u32;
+        pub fn desk_categories(
+            translation: *const u8,
+            translation_len: usize,
+            house: *const u8,
+            house_len: usize,
+            record: *mut u64,
+        ) -> u32;
+        pub fn desk_label(
+            translation: *const u8,
+            translation_len: usize,
+            house: *const u8,
+            house_len: usize,
+            action: u16,
+            file: *mut u32,
+            offset: *mut u32,
+            length: *mut u32,
+        );
+    }
+}
+
+const UNWRITTEN: u64 = 0xDEAD_BEEF_DEAD_BEEF;
+
+/// The number and the place.
+pub fn check(ask: &[u8], net: &[u8], formulas: &[u8], tree: &[u8]) -> (u32, u64) {
+    let mut place = UNWRITTEN;
+    // SAFETY: the pointers and lengths are those of slices; the out-pointer is
+    // that of a local.
+    let number = unsafe {
+        c::desk_check(
+            ask.as_ptr(),
+            ask.len(),
+            net.as_ptr(),
+            net.len(),
+            formulas.as_ptr(),
+            formulas.len(),
+            tree.as_ptr(),
+            tree.len(),
+            &mut place,
+        )
+    };
+    (number, place)
+}
+
+/// The number, the record and the marking after.
+pub fn fire(places: u32, marking: u64, net: &[u8], transition: u32) -> (u32, u64, u64) {
+    let mut record = UNWRITTEN;
+    let mut after = UNWRITTEN;
+    // SAFETY: as in `check`.
+    let number = unsafe {
+        c::desk_fire(
+            places,
+            marking,
+            net.as_ptr(),
+            net.len(),
+            transition,
+            &mut record,
+            &mut after,
+        )
+    };
+    (number, record, after)
+}
+
+/// The number and the record.
+pub fn categories(translation: &[u8], house: &[u8]) -> (u32, u64) {
+    let mut record = UNWRITTEN;
+    // SAFETY: as in `check`.
+    let number = unsafe {
+        c::desk_categories(
+            translation.as_ptr(),
+            translation.len(),
+            house.as_ptr(),
+            house.len(),
+            &mut record,
+        )
+    };
+    (number, record)
+}
+
+/// The file, offset and length.
+pub fn label(translation: &[u8], house: &[u8], action: u16) -> (u32, u32, u32) {
+    let mut file = UNWRITTEN as u32;
+    let mut offset = UNWRITTEN as u32;
+    let mut length = UNWRITTEN as u32;
+    // SAFETY: as in `check`.
+    unsafe {
+        c::desk_label(
+            translation.as_ptr(),
+            translation.len(),
+            house.as_ptr(),
+            house.len(),
+            action,
+            &mut file,
+            &mut offset,
+            &mut length,
+        );
+    }
+    (file, offset, length)
+}

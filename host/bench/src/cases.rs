@@ -1,0 +1,163 @@
+//! The cases of the benchmark.
+
+use std::hint::black_box;
+
+use generate::cases::TreeCase;
+use generate::categories::{borrower, named};
+use generate::encode::{self, Transition};
+use generate::families::{self, NET_R};
+use reference::category::CATEGORIES;
+use reference::{Refusal, category, check, net};
+
+type Call = Box<dyn Fn() -> u64>;
+
+/// A call on both sides. Each answers with one number made of all it gives.
+pub struct Bench {
+    pub archive: Call,
+    pub reference: Call,
+}
+
+impl Bench {
+    /// Stops where the two sides do not agree.
+    pub fn agree(&self) {
+        assert_eq!((self.archive)(), (self.reference)());
+    }
+}
+
+/// A name and what makes the case.
+type Named = (&'static str, fn() -> Bench);
+
+pub const CASES: [Named; 14] = [
+    ("tree: R, 23 nodes", || tree_bench(families::r_holds())),
+    ("tree: trail of 32767", || {
+        tree_bench(families::trail_chain(32_767))
+    }),
+    ("tree: chain, no trail", || {
+        tree_bench(families::plain_chain(21_843))
+    }),
+    ("tree: operator 2", || tree_bench(families::and_tree(16))),
+    ("tree: 39 children each", || {
+        tree_bench(families::wide_tree(39, 64))
+    }),
+    ("tree: rings, operator 5", || {
+        tree_bench(families::realistic())
+    }),
+    ("fire: net R", || fire_bench(encode::net(&NET_R), 3, 3, 1)),
+    ("fire: 64 transitions", || {
+        fire_bench(large_net(), 64, u64::MAX, 63)
+    }),
+    ("categories: full files", categories_bench),
+    ("categories: full, search", search_bench),
+    ("label: small files", || {
+        label_bench(small_file(1), small_file(2), 5)
+    }),
+    ("label: full, first", || {
+        label_bench(full_file(), full_file(), 0)
+    }),
+    ("label: full, last", || {
+        label_bench(full_file(), full_file(), 1999)
+    }),
+    ("label: full, none", || {
+        label_bench(full_file(), full_file(), 5000)
+    }),
+];
+
+fn two(number: u32, place: u64) -> u64 {
+    u64::from(number) << 32 ^ place
+}
+
+fn refused(answer: Result<(), Refusal>) -> u64 {
+    answer.map_or_else(|refusal| two(refusal.number, refusal.record), |()| 0)
+}
+
+pub fn tree_bench(case: TreeCase) -> Bench {
+    let copy = case.clone();
+    Bench {
+        archive: Box::new(move || {
+            let case = black_box(&case);
+            let answer = archive::check(&case.ask, &case.net, &case.formulas, &case.tree);
+            two(answer.0, answer.1)
+        }),
+        reference: Box::new(move || {
+            let case = black_box(&copy);
+            let answer = check::check(&case.ask, &case.net, &case.formulas, &case.tree);
+            let (number, place) = answer.numbers();
+            two(number, place)
+        }),
+    }
+}
+
+fn large_net() -> Vec<u8> {
+    let loop_at = |t: usize| Transition {
+        pre: 1 << t,
+        post: 1 << t,
+        action: t as u16,
+    };
+    encode::net(&(0..64).map(loop_at).collect::<Vec<_>>())
+}
+
+fn fire_bench(net: Vec<u8>, places: u32, marking: u64, t: u32) -> Bench {
+    let copy = net.clone();
+    Bench {
+        archive: Box::new(move || {
+            let (number, record, after) = archive::fire(places, marking, black_box(&net), t);
+            two(number, record) ^ after
+        }),
+        reference: Box::new(move || {
+            let answer = net::fire(places, marking, black_box(&copy), t);
+            answer.unwrap_or_else(|refusal| two(refusal.number, refusal.record))
+        }),
+    }
+}
+
+/// 2,000 records, the first half borrowing from the last record.
+fn full_file() -> Vec<u8> {
+    let last = CATEGORIES as u16 - 1;
+    let record = |action: u16| match action < CATEGORIES as u16 / 2 {
+        true => borrower(action, last),
+        false => named(action, b"a text of 24 bytes, full"),
+    };
+    (0..CATEGORIES as u16).flat_map(record).collect()
+}
+
+fn small_file(first: u16) -> Vec<u8> {
+    let record = |action: u16| named(action, b"short");
+    (first..first + 10).flat_map(record).collect()
+}
+
+fn categories_bench() -> Bench {
+    let (file, copy) = (full_file(), full_file());
+    Bench {
+        archive: Box::new(move || {
+            let (number, record) = archive::categories(black_box(&file), black_box(&file));
+            two(number, record)
+        }),
+        reference: Box::new(move || refused(category::check(black_box(&copy), black_box(&copy)))),
+    }
+}
+
+/// The same against a reference that looks through the file for each lender.
+fn search_bench() -> Bench {
+    let copy = full_file();
+    let by_search = move || category::check_by_search(black_box(&copy), black_box(&copy));
+    Bench {
+        reference: Box::new(move || refused(by_search())),
+        ..categories_bench()
+    }
+}
+
+fn label_bench(translation: Vec<u8>, house: Vec<u8>, action: u16) -> Bench {
+    let (translation_copy, house_copy) = (translation.clone(), house.clone());
+    let mix = |file: u32, offset: u32, length: u32| two(offset, u64::from(file << 16 | length));
+    Bench {
+        archive: Box::new(move || {
+            let label = archive::label(black_box(&translation), black_box(&house), action);
+            mix(label.0, label.1, label.2)
+        }),
+        reference: Box::new(move || {
+            let (translation, house) = (black_box(&translation_copy), black_box(&house_copy));
+            let label = category::label(translation, house, action);
+            mix(label.file, label.offset, label.length)
+        }),
+    }
+}

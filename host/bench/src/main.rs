@@ -1,0 +1,96 @@
+//! The cost of the archive beside that of the reference, in one run.
+//!
+//! bench                            every case: medians and their ratio
+//! bench list                       the names of the cases
+//! bench one CASE SIDE TIMES        one case on one side (archive, reference)
+//! bench growth                     cost by nodes, depth and transitions
+
+mod cases;
+mod measure;
+
+use cases::{Bench, CASES, tree_bench};
+use generate::cases::TreeCase;
+use generate::families;
+use measure::{medians, time_text};
+
+fn main() {
+    let arguments: Vec<String> = std::env::args().skip(1).collect();
+    let arguments: Vec<&str> = arguments.iter().map(String::as_str).collect();
+    match arguments.as_slice() {
+        [] => table(),
+        ["list"] => CASES.iter().for_each(|(name, _)| println!("{name}")),
+        ["one", name, side, times] => one(name, side, times.parse().expect("a number")),
+        ["growth"] => growth(),
+        _ => eprintln!("bench | bench list | bench one CASE SIDE TIMES | bench growth"),
+    }
+}
+
+fn table() {
+    println!(
+        "{:<26} {:>12} {:>12} {:>7}",
+        "case", "archive", "reference", "ratio"
+    );
+    for (name, make) in CASES {
+        row(name, &make());
+    }
+}
+
+fn row(name: &str, bench: &Bench) {
+    bench.agree();
+    let (archive, reference) = medians(bench);
+    println!(
+        "{:<26} {:>12} {:>12} {:>7.2}",
+        name,
+        time_text(archive),
+        time_text(reference),
+        archive / reference
+    );
+}
+
+fn one(name: &str, side: &str, times: usize) {
+    let case = CASES.iter().find(|case| case.0 == name);
+    let bench = case.expect("a name that `bench list` prints").1();
+    let run = match side {
+        "archive" => &bench.archive,
+        "reference" => &bench.reference,
+        _ => panic!("archive or reference"),
+    };
+    let sum = (0..times).fold(0u64, |sum, _| sum.wrapping_add(run()));
+    println!("{name}, {side}, {times} times: {sum}");
+}
+
+fn growth() {
+    println!("by nodes (operator 2 only)");
+    grow((8..=16).map(|levels| (1 << levels, families::and_tree(levels))));
+    println!("by nodes (one chain without a trail)");
+    grow([1000, 4000, 16_000, 21_843].map(|depth| (depth, families::plain_chain(depth))));
+    println!("by depth (one trail)");
+    let depths = [500, 1000, 2000, 4000, 8000, 16_000];
+    grow(depths.map(|depth| (depth, families::trail_chain(depth))));
+    println!("by transitions (rule 24, 20 children at each node)");
+    let transitions = [20, 32, 48, 64];
+    grow(transitions.map(|count| (count, families::wide_tree(20, count))));
+    println!("by children (rule 24, 64 transitions)");
+    grow([5, 10, 20, 39].map(|width| (width, families::wide_tree(width, 64))));
+}
+
+/// A line for each size: the time on both sides, for each node and in all.
+fn grow(cases: impl IntoIterator<Item = (usize, TreeCase)>) {
+    println!(
+        "  {:>7} {:>7} {:>12} {:>12} {:>12} {:>12}",
+        "size", "nodes", "archive", "a node", "reference", "a node"
+    );
+    for (size, case) in cases {
+        let nodes = case.tree.len() / reference::check::NODE;
+        let bench = tree_bench(case);
+        bench.agree();
+        let (archive, reference) = medians(&bench);
+        println!(
+            "  {size:>7} {nodes:>7} {:>12} {:>12} {:>12} {:>12}",
+            time_text(archive),
+            time_text(archive / nodes as f64),
+            time_text(reference),
+            time_text(reference / nodes as f64)
+        );
+    }
+}

@@ -1,0 +1,168 @@
+//! Cases as lines of text in the form of the vectors, and their replay.
+
+use std::process::ExitCode;
+
+use generate::cases::TreeCase;
+use generate::categories::LabelCase;
+use generate::firings::FiringCase;
+use reference::check::Verdict;
+use reference::{category, check, net};
+
+fn hex(bytes: &[u8]) -> String {
+    if bytes.is_empty() {
+        return "-".to_owned();
+    }
+    bytes.iter().map(|b| format!("{b:02x}")).collect()
+}
+
+fn bytes(hex: &str) -> Vec<u8> {
+    if hex == "-" {
+        return Vec::new();
+    }
+    let byte = |i: usize| u8::from_str_radix(&hex[i..i + 2], 16).expect("hex digits");
+    (0..hex.len()).step_by(2).map(byte).collect()
+}
+
+pub fn tree(case: &TreeCase, expected: (u32, u64), found: (u32, u64)) -> String {
+    let tables = [&case.ask, &case.net, &case.formulas, &case.tree].map(|t| hex(t));
+    let (expected, found) = (verdict(expected), verdict(found));
+    format!("tree {} = {expected} but {found}", tables.join(" "))
+}
+
+/// The first action whose answers differ.
+pub fn labels(case: &LabelCase) -> String {
+    let answers = |action: u16| {
+        let expected = reference_labels(&case.translation, &case.house, action);
+        (
+            expected,
+            archive_labels(&case.translation, &case.house, action),
+        )
+    };
+    let differs = |&&action: &&u16| {
+        let (expected, found) = answers(action);
+        expected != found
+    };
+    let action = case.actions.iter().find(differs).copied().unwrap_or(0);
+    let (expected, found) = answers(action);
+    let (translation, house) = (hex(&case.translation), hex(&case.house));
+    format!("label {translation} {house} {action} = {expected} but {found}")
+}
+
+pub fn firing(case: &FiringCase, expected: (u32, u64, u64), found: (u32, u64, u64)) -> String {
+    let (places, marking, transition) = (case.places, case.marking, case.transition);
+    let net = hex(&case.net);
+    let (expected, found) = (three(expected), three(found));
+    format!("firing {places} {marking} {net} {transition} = {expected} but {found}")
+}
+
+fn three((a, b, c): (u32, u64, u64)) -> String {
+    format!("{a} {b} {c}")
+}
+
+/// The program's line for the numbers of a C answer.
+fn verdict((number, place): (u32, u64)) -> String {
+    let verdict = match number {
+        0 => Verdict::Accepted { nodes: place },
+        20.. => Verdict::Broken {
+            fault: number,
+            node: place,
+        },
+        _ => Verdict::Refused {
+            number,
+            record: place,
+        },
+    };
+    verdict.to_string()
+}
+
+fn reference_labels(translation: &[u8], house: &[u8], action: u16) -> String {
+    let (number, record) = match category::check(translation, house) {
+        Ok(()) => (0, 0),
+        Err(refusal) => (refusal.number, refusal.record),
+    };
+    let label = category::label(translation, house, action);
+    let (file, offset, length) = (label.file, label.offset, label.length);
+    format!("{number} {record} {file} {offset} {length}")
+}
+
+fn archive_labels(translation: &[u8], house: &[u8], action: u16) -> String {
+    let (number, record) = archive::categories(translation, house);
+    let (file, offset, length) = archive::label(translation, house, action);
+    format!("{number} {record} {file} {offset} {length}")
+}
+
+/// The archive's and the reference's answer to a line's input.
+fn answers(kind: &str, input: &str) -> (String, String) {
+    let fields: Vec<&str> = input.split(' ').collect();
+    match kind {
+        "tree" => {
+            let t: Vec<Vec<u8>> = fields.iter().map(|f| bytes(f)).collect();
+            let found = archive::check(&t[0], &t[1], &t[2], &t[3]);
+            let expected = check::check(&t[0], &t[1], &t[2], &t[3]);
+            (verdict(found), expected.to_string())
+        }
+        "label" => {
+            let (translation, house) = (bytes(fields[0]), bytes(fields[1]));
+            let action = fields[2].parse().expect("an action");
+            let found = archive_labels(&translation, &house, action);
+            (found, reference_labels(&translation, &house, action))
+        }
+        _ => {
+            let places = fields[0].parse().expect("places");
+            let marking = fields[1].parse().expect("a marking");
+            let transition = fields[3].parse().expect("a transition");
+            let net = bytes(fields[2]);
+            let found = archive::fire(places, marking, &net, transition);
+            let expected = match net::fire(places, marking, &net, transition) {
+                Ok(after) => (0, 0, after),
+                Err(refusal) => (refusal.number, refusal.record, 0),
+            };
+            (three(found), three(expected))
+        }
+    }
+}
+
+/// Compares the archive with every line of the vectors.
+pub fn vectors(folder: &str) -> ExitCode {
+    let mut failed = 0;
+    for (kind, name) in [
+        ("tree", "trees"),
+        ("label", "labels"),
+        ("firing", "firings"),
+    ] {
+        let path = format!("{folder}/{name}.txt");
+        let text = std::fs::read_to_string(&path).expect("the vectors are readable");
+        let mut agreed = 0;
+        for (number, line) in text.lines().enumerate() {
+            let (input, expected) = line.split_once(" = ").expect("a line has an answer");
+            let (found, _) = answers(kind, input);
+            if found == expected {
+                agreed += 1;
+            } else {
+                failed += 1;
+                println!("{name} line {}: {expected}, but {found}", number + 1);
+            }
+        }
+        println!("{name}: {agreed} of {} agree", text.lines().count());
+    }
+    ExitCode::from(u8::from(failed > 0))
+}
+
+/// Answers the lines that this program printed for differences.
+pub fn replay(file: &str) -> ExitCode {
+    let text = std::fs::read_to_string(file).expect("the file is readable");
+    let mut failed = false;
+    for line in text.lines() {
+        let start = ["tree ", "label ", "firing "]
+            .iter()
+            .find_map(|kind| line.find(kind));
+        let Some((kind, input)) = start.and_then(|start| line[start..].split_once(' ')) else {
+            continue;
+        };
+        let input = input.split(" = ").next().unwrap_or(input);
+        let (found, expected) = answers(kind, input);
+        println!("{kind}: reference {expected}, archive {found}");
+        failed |= found != expected;
+    }
+    ExitCode::from(u8::from(failed))
+}

@@ -1,0 +1,145 @@
+//! Compares the archive with the reference.
+//!
+//! compare [CASES [SEED]]   generated cases (1,000,000 and seed 1 by default)
+//! compare vectors FOLDER   the archive against the vectors
+//! compare replay FILE      lines as this program prints them for a difference
+
+mod lines;
+mod tally;
+
+use std::process::ExitCode;
+use std::time::Instant;
+
+use generate::cases::{Case, Generator, Kind, TreeCase};
+use generate::categories::LabelCase;
+use generate::firings::FiringCase;
+use reference::check::{Input, NODE, Node};
+use reference::meaning::{Graph, evaluate};
+use reference::rules::HOLDS;
+use reference::{category, check, net};
+
+use tally::Tally;
+
+/// The most markings of a graph on which the meaning is evaluated.
+const MARKINGS: usize = 3000;
+
+fn main() -> ExitCode {
+    let arguments: Vec<String> = std::env::args().skip(1).collect();
+    let arguments: Vec<&str> = arguments.iter().map(String::as_str).collect();
+    match arguments.as_slice() {
+        ["vectors", folder] => lines::vectors(folder),
+        ["replay", file] => lines::replay(file),
+        [] => generated(1_000_000, 1),
+        [cases] => generated(number(cases), 1),
+        [cases, seed] => generated(number(cases), number(seed)),
+        _ => {
+            eprintln!("compare [CASES [SEED]] | compare vectors FOLDER | compare replay FILE");
+            ExitCode::from(2)
+        }
+    }
+}
+
+fn number(text: &str) -> u64 {
+    text.parse().expect("a number")
+}
+
+fn generated(cases: u64, seed: u64) -> ExitCode {
+    let start = Instant::now();
+    let mut generator = Generator::new(seed);
+    let mut tally = Tally::default();
+    for _ in 0..cases {
+        match generator.case() {
+            Case::Tree(kind, case) => compare_tree(&mut tally, kind, &case),
+            Case::Label(case) => compare_labels(&mut tally, &case),
+            Case::Firing(case) => compare_firing(&mut tally, &case),
+        }
+    }
+    tally.stuck = generator.stuck;
+    tally.too_large = generator.too_large;
+    tally.too_many_markings = generator.too_many_markings;
+    let seconds = start.elapsed().as_secs_f64();
+    println!("seed {seed}, {cases} cases in {seconds:.1} s");
+    tally.print();
+    match tally.passed() {
+        true => ExitCode::SUCCESS,
+        false => ExitCode::FAILURE,
+    }
+}
+
+fn compare_tree(tally: &mut Tally, kind: Kind, case: &TreeCase) {
+    let expected = check::check(&case.ask, &case.net, &case.formulas, &case.tree).numbers();
+    let found = archive::check(&case.ask, &case.net, &case.formulas, &case.tree);
+    tally.tree(kind, expected.0);
+    tally.answer(expected.0);
+    if found != expected {
+        tally.difference(size(case), || lines::tree(case, expected, found));
+    }
+    if kind == Kind::Valid && expected.0 != 0 {
+        tally.refused_valid += 1;
+    }
+    if expected.0 == 0 {
+        let (records, _) = case.tree.as_chunks::<NODE>();
+        records.iter().for_each(|r| tally.rule(Node::read(r).rule));
+    }
+    if expected.0 == 0 || found.0 == 0 {
+        compare_meaning(tally, case, expected, found);
+    }
+}
+
+/// The bytes of all tables.
+fn size(case: &TreeCase) -> usize {
+    case.ask.len() + case.net.len() + case.formulas.len() + case.tree.len()
+}
+
+/// Whether an accepted tree's claim is true.
+fn compare_meaning(tally: &mut Tally, case: &TreeCase, expected: (u32, u64), found: (u32, u64)) {
+    let Ok(input) = Input::decode(&case.ask, &case.net, &case.formulas, &case.tree) else {
+        return;
+    };
+    let ask = &input.ask;
+    let Some(graph) = Graph::reachable(&input.net, ask.marking, MARKINGS) else {
+        tally.unevaluated += 1;
+        return;
+    };
+    let asked = usize::from(ask.formula);
+    let truth = evaluate(&input.net, &graph, &input.formulas, asked);
+    tally.evaluated += 1;
+    if truth[asked][0] != (ask.side == HOLDS) {
+        tally.contradiction(size(case), || lines::tree(case, expected, found));
+    }
+}
+
+fn compare_labels(tally: &mut Tally, case: &LabelCase) {
+    let expected = match category::check(&case.translation, &case.house) {
+        Ok(()) => (0, 0),
+        Err(refusal) => (refusal.number, refusal.record),
+    };
+    let found = archive::categories(&case.translation, &case.house);
+    tally.label_pairs += 1;
+    tally.answer(expected.0);
+    let mut labels_differ = false;
+    for &action in &case.actions {
+        let label = category::label(&case.translation, &case.house, action);
+        let expected = (label.file, label.offset, label.length);
+        tally.labels += u64::from(label.length > 0);
+        labels_differ |= expected != archive::label(&case.translation, &case.house, action);
+    }
+    if found != expected || labels_differ {
+        let size = case.translation.len() + case.house.len();
+        tally.difference(size, || lines::labels(case));
+    }
+}
+
+fn compare_firing(tally: &mut Tally, case: &FiringCase) {
+    let answer = net::fire(case.places, case.marking, &case.net, case.transition);
+    let expected = match answer {
+        Ok(after) => (0, 0, after),
+        Err(refusal) => (refusal.number, refusal.record, 0),
+    };
+    let found = archive::fire(case.places, case.marking, &case.net, case.transition);
+    tally.firings += 1;
+    tally.answer(expected.0);
+    if found != expected {
+        tally.difference(case.net.len(), || lines::firing(case, expected, found));
+    }
+}

@@ -1,0 +1,68 @@
+//! Records as bytes.
+
+use reference::check::{ASK, Ask, NODE, Node};
+use reference::formula::{FORMULA, Formula};
+use reference::net::TRANSITION;
+
+#[derive(Clone, Copy, Debug, PartialEq, Eq)]
+pub struct Transition {
+    pub pre: u64,
+    pub post: u64,
+    pub action: u16,
+}
+
+pub fn transition(t: &Transition) -> [u8; TRANSITION] {
+    let mut record = [0; TRANSITION];
+    record[0..8].copy_from_slice(&t.pre.to_le_bytes());
+    record[8..16].copy_from_slice(&t.post.to_le_bytes());
+    record[16..18].copy_from_slice(&t.action.to_le_bytes());
+    record
+}
+
+pub fn net(transitions: &[Transition]) -> Vec<u8> {
+    transitions.iter().flat_map(transition).collect()
+}
+
+pub fn formula(f: &Formula) -> [u8; FORMULA] {
+    let mut record = [0; FORMULA];
+    record[0] = f.operator;
+    record[2..4].copy_from_slice(&f.left.to_le_bytes());
+    record[4..6].copy_from_slice(&f.right.to_le_bytes());
+    record[6..8].copy_from_slice(&f.action.to_le_bytes());
+    record
+}
+
+pub fn formulas(list: &[Formula]) -> Vec<u8> {
+    list.iter().flat_map(formula).collect()
+}
+
+pub fn ask(ask: &Ask) -> Vec<u8> {
+    let mut record = [0; ASK];
+    record[0..8].copy_from_slice(&ask.marking.to_le_bytes());
+    record[8..10].copy_from_slice(&ask.formula.to_le_bytes());
+    record[10] = ask.places;
+    record[11] = ask.side;
+    record.to_vec()
+}
+
+pub fn node(node: &Node) -> [u8; NODE] {
+    let s = &node.sequent;
+    let mut record = [0; NODE];
+    record[0..8].copy_from_slice(&s.marking.to_le_bytes());
+    record[8..16].copy_from_slice(&s.anchor.to_le_bytes());
+    record[16..24].copy_from_slice(&s.kept.to_le_bytes());
+    record[24..28].copy_from_slice(&node.parent.to_le_bytes());
+    record[28..32].copy_from_slice(&node.first.to_le_bytes());
+    record[32..34].copy_from_slice(&s.formula.to_le_bytes());
+    record[34] = node.children;
+    record[35] = node.rule;
+    record[36] = s.side;
+    record[37] = s.phase;
+    record[38] = s.round;
+    record[39] = node.transition;
+    record
+}
+
+pub fn tree(nodes: &[Node]) -> Vec<u8> {
+    nodes.iter().flat_map(node).collect()
+}

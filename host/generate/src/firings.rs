@@ -1,0 +1,61 @@
+//! Single firings.
+
+use reference::net::{TRANSITION, below};
+
+use crate::encode;
+use crate::prng::Prng;
+use crate::settings::setting;
+
+pub struct FiringCase {
+    pub places: u32,
+    pub marking: u64,
+    pub net: Vec<u8>,
+    pub transition: u32,
+}
+
+pub fn firing_case(rng: &mut Prng) -> FiringCase {
+    let setting = setting(rng);
+    let count = setting.transitions.len();
+    let mut case = FiringCase {
+        places: setting.places,
+        marking: setting.marking,
+        net: encode::net(&setting.transitions),
+        transition: rng.below(count) as u32,
+    };
+    if rng.percent(30) {
+        case.marking = rng.number() & below(case.places);
+    }
+    if rng.percent(40) {
+        for _ in 0..rng.pick(&[1, 1, 2, 3]) {
+            change(rng, &mut case, count);
+        }
+    }
+    case
+}
+
+fn change(rng: &mut Prng, case: &mut FiringCase, count: usize) {
+    match rng.below(9) {
+        0 => case.places = rng.pick(&[0, 1, 63, 64, 65, 256, 257, 320, u32::MAX]),
+        1 => case.places = case.places.wrapping_sub(1),
+        2 => case.marking ^= 1 << rng.below(64),
+        3 => case.marking = rng.edge(),
+        4 => case.transition = count as u32 + rng.below(2) as u32,
+        5 => {
+            let far = rng.pick(&[64, 256, 65_536, 1 << 31, u32::MAX - 63]);
+            case.transition = case.transition.wrapping_add(far);
+        }
+        6 if !case.net.is_empty() => {
+            let at = rng.below(case.net.len());
+            case.net[at] ^= 1 << rng.below(8);
+        }
+        7 => {
+            let records = rng.pick(&[0, 1, 63, 64, 65]);
+            let extra = rng.pick(&[0, 0, 0, 1, 23]);
+            case.net.resize(records * TRANSITION + extra, 0);
+        }
+        _ => {
+            let length = rng.below(case.net.len() + 1);
+            case.net.truncate(length);
+        }
+    }
+}

@@ -1,0 +1,105 @@
+//! Document 01's C functions over the reference. It stands in for the archive
+//! while the tests themselves are tried out, and is no part of the gate.
+
+use reference::{category, check, net};
+
+/// # Safety
+/// The pointer is that of `len` readable bytes.
+unsafe fn bytes<'a>(pointer: *const u8, len: usize) -> &'a [u8] {
+    unsafe { std::slice::from_raw_parts(pointer, len) }
+}
+
+/// # Safety
+/// See `include/desk.h`.
+#[unsafe(no_mangle)]
+pub unsafe extern "C" fn desk_check(
+    ask: *const u8,
+    ask_len: usize,
+    net: *const u8,
+    net_len: usize,
+    formulas: *const u8,
+    formulas_len: usize,
+    tree: *const u8,
+    tree_len: usize,
+    place: *mut u64,
+) -> u32 {
+    let verdict = unsafe {
+        check::check(
+            bytes(ask, ask_len),
+            bytes(net, net_len),
+            bytes(formulas, formulas_len),
+            bytes(tree, tree_len),
+        )
+    };
+    let (number, at) = verdict.numbers();
+    unsafe { *place = at };
+    number
+}
+
+/// # Safety
+/// See `include/desk.h`.
+#[unsafe(no_mangle)]
+pub unsafe extern "C" fn desk_fire(
+    places: u32,
+    marking: u64,
+    net: *const u8,
+    net_len: usize,
+    transition: u32,
+    record: *mut u64,
+    after: *mut u64,
+) -> u32 {
+    let answer = net::fire(places, marking, unsafe { bytes(net, net_len) }, transition);
+    let (number, at, marking) = match answer {
+        Ok(marking) => (0, 0, marking),
+        Err(refusal) => (refusal.number, refusal.record, 0),
+    };
+    unsafe {
+        *record = at;
+        *after = marking;
+    }
+    number
+}
+
+/// # Safety
+/// See `include/desk.h`.
+#[unsafe(no_mangle)]
+pub unsafe extern "C" fn desk_categories(
+    translation: *const u8,
+    translation_len: usize,
+    house: *const u8,
+    house_len: usize,
+    record: *mut u64,
+) -> u32 {
+    let answer =
+        unsafe { category::check(bytes(translation, translation_len), bytes(house, house_len)) };
+    let (number, at) = match answer {
+        Ok(()) => (0, 0),
+        Err(refusal) => (refusal.number, refusal.record),
+    };
+    unsafe { *record = at };
+    number
+}
+
+/// # Safety
+/// See `include/desk.h`.
+#[unsafe(no_mangle)]
+pub unsafe extern "C" fn desk_label(
+    translation: *const u8,
+    translation_len: usize,
+    house: *const u8,
+    house_len: usize,
+    action: u16,
+    file: *mut u32,
+    offset: *mut u32,
+    length: *mut u32,
+) {
+    let label = unsafe {
+        let translation = bytes(translation, translation_len);
+        category::label(translation, bytes(house, house_len), action)
+    };
+    unsafe {
+        *file = label.file;
+        *offset = label.offset;
+        *length = label.length;
+    }
+}

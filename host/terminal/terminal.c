@@ -1,0 +1,460 @@
+/* A program in the terminal's place: calls the archive through desk.h on good
+ * and bad input and checks every answer and out-parameter. */
+#include <inttypes.h>
+#include <stdio.h>
+#include <stdlib.h>
+#include <string.h>
+
+#include "desk.h"
+
+static unsigned passed;
+static unsigned failed;
+
+/* A value that no call gives, so that an out-parameter left unwritten shows. */
+static const uint64_t UNWRITTEN = UINT64_C(0xDEADBEEFDEADBEEF);
+
+static void expect(const char *what, const char *field, uint64_t expected, uint64_t found)
+{
+    if (expected == found) {
+        passed++;
+        return;
+    }
+    failed++;
+    printf("%s: %s is %" PRIu64 ", not %" PRIu64 "\n", what, field, found, expected);
+}
+
+/* Little-endian records */
+
+static void put(uint8_t *at, unsigned size, uint64_t value)
+{
+    for (unsigned i = 0; i < size; i++) {
+        at[i] = (uint8_t)(value >> (8 * i));
+    }
+}
+
+static void put_transition(uint8_t *record, uint64_t pre, uint64_t post, uint64_t action)
+{
+    memset(record, 0, DESK_TRANSITION_BYTES);
+    put(record, 8, pre);
+    put(record + 8, 8, post);
+    put(record + 16, 2, action);
+}
+
+static void put_formula(uint8_t *record, uint8_t operation, uint64_t left, uint64_t right,
+                        uint64_t action)
+{
+    memset(record, 0, DESK_FORMULA_BYTES);
+    record[0] = operation;
+    put(record + 2, 2, left);
+    put(record + 4, 2, right);
+    put(record + 6, 2, action);
+}
+
+static void put_ask(uint8_t *record, uint64_t marking, uint64_t formula, uint8_t places,
+                    uint8_t side)
+{
+    put(record, 8, marking);
+    put(record + 8, 2, formula);
+    record[10] = places;
+    record[11] = side;
+}
+
+typedef struct {
+    uint64_t marking, anchor, kept;
+    uint32_t parent, first;
+    uint16_t formula;
+    uint8_t children, rule, side, phase, round, transition;
+} node;
+
+static void put_node(uint8_t *record, const node *n)
+{
+    put(record, 8, n->marking);
+    put(record + 8, 8, n->anchor);
+    put(record + 16, 8, n->kept);
+    put(record + 24, 4, n->parent);
+    put(record + 28, 4, n->first);
+    put(record + 32, 2, n->formula);
+    record[34] = n->children;
+    record[35] = n->rule;
+    record[36] = n->side;
+    record[37] = n->phase;
+    record[38] = n->round;
+    record[39] = n->transition;
+}
+
+static void put_category(uint8_t *record, uint64_t action, uint8_t kind, uint64_t lender,
+                         const char *text)
+{
+    memset(record, 0, DESK_CATEGORY_BYTES);
+    put(record, 2, action);
+    record[2] = kind;
+    put(record + 4, 2, lender);
+    memcpy(record + 8, text, strlen(text));
+}
+
+/* Net R of document 01, in allocations of the exact size so that a checker of
+ * memory sees a read past the end. */
+
+typedef struct {
+    uint8_t *bytes;
+    size_t len;
+} table;
+
+/* All tables, to be given back after each group of checks. */
+enum { TABLES = 1000 };
+static uint8_t *lent[TABLES];
+static size_t lent_count;
+
+static table empty_table(size_t len)
+{
+    table t = {(uint8_t *)calloc(len > 0 ? len : 1, 1), len};
+    if (t.bytes == NULL || lent_count == TABLES) {
+        puts("no memory");
+        exit(1);
+    }
+    lent[lent_count++] = t.bytes;
+    return t;
+}
+
+static void give_back(void)
+{
+    while (lent_count > 0) {
+        free(lent[--lent_count]);
+    }
+}
+
+static table net_r(size_t transitions)
+{
+    table t = empty_table(transitions * DESK_TRANSITION_BYTES);
+    static const uint64_t rows[3][3] = {{1, 1, 1}, {2, 4, 2}, {4, 0, 3}};
+    for (size_t i = 0; i < transitions; i++) {
+        put_transition(t.bytes + i * DESK_TRANSITION_BYTES, rows[i][0], rows[i][1], rows[i][2]);
+    }
+    return t;
+}
+
+static table formulas_r(void)
+{
+    table t = empty_table(3 * DESK_FORMULA_BYTES);
+    put_formula(t.bytes, 0, 0, 0, 0);
+    put_formula(t.bytes + DESK_FORMULA_BYTES, 3, 0, 0, 3);
+    put_formula(t.bytes + 2 * DESK_FORMULA_BYTES, 5, 0, 1, 0);
+    return t;
+}
+
+static table ask_r(uint64_t marking, uint64_t formula, uint8_t places, uint8_t side)
+{
+    table t = empty_table(DESK_ASK_BYTES);
+    put_ask(t.bytes, marking, formula, places, side);
+    return t;
+}
+
+static table tree_of(const node *nodes, size_t count)
+{
+    table t = empty_table(count * DESK_NODE_BYTES);
+    for (size_t i = 0; i < count; i++) {
+        put_node(t.bytes + i * DESK_NODE_BYTES, &nodes[i]);
+    }
+    return t;
+}
+
+/* Rules 31, 32 (t0), 24 and 33, the last node keeping `kept`. */
+static table loop_tree(uint64_t marking, uint64_t next, uint64_t kept)
+{
+    const node nodes[4] = {
+        {marking, 0, 0, 0, 1, 2, 1, 31, DESK_FAILS, 0, 0, 0},
+        {marking, marking, next, 0, 2, 2, 2, 32, DESK_FAILS, 4, 0, 0},
+        {marking, 0, 0, 1, 0, 1, 0, 24, DESK_FAILS, 0, 0, 0},
+        {marking, marking, kept, 1, 0, 2, 0, 33, DESK_FAILS, 4, 0, 0},
+    };
+    return tree_of(nodes, 4);
+}
+
+/* The tree of 23 nodes for "formula 2 holds at 3" in net R: t0 loops at 3
+ * while t1 stays enabled and independent of it. */
+static table holds_tree(void)
+{
+    enum { H = DESK_HOLDS };
+    const node nodes[23] = {
+        /* 0: at 3, then after t0 (3 again) and after t1 (5) */
+        {3, 0, 0, 0, 1, 2, 3, 6, H, 0, 0, 0},
+        {3, 0, 0, 0, 0, 0, 0, 15, H, 0, 0, 0},
+        {3, 0, 0, 0, 4, 2, 1, 7, H, 0, 0, 0},
+        {5, 0, 0, 0, 5, 2, 1, 5, H, 0, 0, 0},
+        /* 4: anchored at 3, keeping t0 and t1 */
+        {3, 3, 3, 2, 6, 2, 1, 8, H, 1, 2, 0},
+        /* 5: at 5 transition t2 is enabled */
+        {5, 0, 0, 3, 7, 1, 1, 2, H, 0, 0, 2},
+        {3, 3, 3, 4, 8, 2, 3, 9, H, 2, 1, 0},
+        {1, 0, 0, 5, 0, 0, 0, 15, H, 0, 0, 0},
+        {3, 0, 0, 6, 0, 0, 0, 15, H, 0, 0, 0},
+        {3, 3, 2, 6, 11, 2, 1, 11, H, 2, 1, 0},
+        {5, 3, 1, 6, 12, 2, 1, 10, H, 2, 1, 0},
+        /* 11: on the way back, at the anchor */
+        {3, 3, 2, 9, 13, 2, 1, 14, H, 3, 1, 0},
+        {5, 0, 0, 10, 14, 1, 1, 2, H, 0, 0, 2},
+        {3, 3, 2, 11, 15, 2, 1, 8, H, 1, 1, 0},
+        {1, 0, 0, 12, 0, 0, 0, 15, H, 0, 0, 0},
+        {3, 3, 2, 13, 16, 2, 3, 9, H, 2, 0, 0},
+        {3, 0, 0, 15, 0, 0, 0, 15, H, 0, 0, 0},
+        {3, 3, 2, 15, 19, 2, 1, 11, H, 2, 0, 0},
+        {5, 3, 0, 15, 20, 2, 1, 10, H, 2, 0, 0},
+        {3, 3, 2, 17, 21, 2, 1, 14, H, 3, 0, 0},
+        {5, 0, 0, 18, 22, 1, 1, 2, H, 0, 0, 2},
+        {3, 3, 2, 19, 0, 2, 0, 17, H, 1, 0, 0},
+        {1, 0, 0, 20, 0, 0, 0, 15, H, 0, 0, 0},
+    };
+    return tree_of(nodes, 23);
+}
+
+/* Calls with checks of all that they write */
+
+static void check(const char *what, table ask, table net, table formulas, table tree,
+                  uint32_t number, uint64_t place)
+{
+    uint64_t found = UNWRITTEN;
+    expect(what, "number", number,
+           desk_check_bytes(ask.bytes, ask.len, net.bytes, net.len, formulas.bytes, formulas.len,
+                            tree.bytes, tree.len, &found));
+    expect(what, "place", place, found);
+}
+
+static void fire(const char *what, uint32_t places, uint64_t marking, table net,
+                 uint32_t transition, uint32_t number, uint64_t record, uint64_t after)
+{
+    uint64_t found_record = UNWRITTEN;
+    uint64_t found_after = UNWRITTEN;
+    expect(what, "number", number,
+           desk_fire_bytes(places, marking, net.bytes, net.len, transition, &found_record,
+                           &found_after));
+    expect(what, "record", record, found_record);
+    expect(what, "after", after, found_after);
+}
+
+static void categories(const char *what, table translation, table house, uint32_t number,
+                       uint64_t record)
+{
+    uint64_t found = UNWRITTEN;
+    expect(what, "number", number,
+           desk_categories_bytes(translation.bytes, translation.len, house.bytes, house.len,
+                                 &found));
+    expect(what, "record", record, found);
+}
+
+static void label(const char *what, table translation, table house, uint16_t action,
+                  uint32_t file, uint32_t offset, uint32_t length)
+{
+    uint32_t found_file = (uint32_t)UNWRITTEN;
+    uint32_t found_offset = (uint32_t)UNWRITTEN;
+    uint32_t found_length = (uint32_t)UNWRITTEN;
+    desk_label_bytes(translation.bytes, translation.len, house.bytes, house.len, action,
+                     &found_file, &found_offset, &found_length);
+    expect(what, "file", file, found_file);
+    expect(what, "offset", offset, found_offset);
+    expect(what, "length", length, found_length);
+}
+
+static const table NOTHING = {NULL, 0};
+
+/* A copy of a table with another length; bytes beyond the old end are zero. */
+static table resized(table old, size_t len)
+{
+    table t = empty_table(len);
+    memcpy(t.bytes, old.bytes, len < old.len ? len : old.len);
+    return t;
+}
+
+/* A copy with one byte changed. */
+static table changed(table old, size_t at, uint8_t value)
+{
+    table t = resized(old, old.len);
+    t.bytes[at] = value;
+    return t;
+}
+
+static void samples(void)
+{
+    table net = net_r(3), one = net_r(1), formulas = formulas_r();
+    table holds = ask_r(3, 2, 3, DESK_HOLDS), fails = ask_r(3, 2, 3, DESK_FAILS);
+    table fails_at_1 = ask_r(1, 2, 1, DESK_FAILS);
+    table good = holds_tree(), loop_2 = loop_tree(3, 3, 2), loop_0 = loop_tree(3, 3, 0);
+    table one_loop = loop_tree(1, 1, 0);
+    check("R holds", holds, net, formulas, good, DESK_GRANTED, 23);
+    check("R fails, keeping 2", fails, net, formulas, loop_2, DESK_FAULT_CONDITION, 3);
+    check("R fails, keeping 0", fails, net, formulas, loop_0, DESK_FAULT_CHILD, 1);
+    check("one place", fails_at_1, one, formulas, one_loop, DESK_GRANTED, 4);
+    check("the other side", fails, net, formulas, good, DESK_FAULT_ROOT, 0);
+
+    table leaf_first = changed(good, 22 * DESK_NODE_BYTES + 28, 1);
+    table bad_phase = changed(good, 37, 5);
+    table bad_rule = changed(good, 21 * DESK_NODE_BYTES + 35, 19);
+    table no_child = changed(changed(good, 34, 2), 3 * DESK_NODE_BYTES + 24, 1);
+    check("a leaf with a first child", holds, net, formulas, leaf_first, DESK_FAULT_LINKS, 22);
+    check("phase 5", holds, net, formulas, bad_phase, DESK_FAULT_RANGE, 0);
+    check("rule 19", holds, net, formulas, bad_rule, DESK_FAULT_RULE, 21);
+    check("two children of three", holds, net, formulas, no_child, DESK_FAULT_COUNT, 0);
+}
+
+static void check_refusals(void)
+{
+    table net = net_r(3), formulas = formulas_r(), tree = holds_tree();
+    table ask = ask_r(3, 2, 3, DESK_HOLDS);
+    check("nothing at all", NOTHING, NOTHING, NOTHING, NOTHING, DESK_BAD_ASK, 0);
+    check("no net", ask, NOTHING, NOTHING, NOTHING, DESK_BAD_NET_SIZE, 0);
+    check("no formulas", ask, net, NOTHING, NOTHING, DESK_BAD_FORMULAS_SIZE, 0);
+    check("no tree", ask, net, formulas, NOTHING, DESK_BAD_TREE_SIZE, 0);
+    for (size_t len = 0; len <= 2 * DESK_ASK_BYTES; len++) {
+        table other = resized(ask, len);
+        check("ask size", other, net, formulas, tree, len == DESK_ASK_BYTES ? 0 : DESK_BAD_ASK,
+              len == DESK_ASK_BYTES ? 23 : 0);
+    }
+    for (size_t len = 0; len <= 5; len++) {
+        static const size_t sizes[6] = {1, 23, 25, 71, 73, 65 * DESK_TRANSITION_BYTES};
+        table other = resized(net, sizes[len]);
+        check("net size", ask, other, formulas, tree, DESK_BAD_NET_SIZE, 0);
+    }
+    for (size_t len = 0; len <= 5; len++) {
+        static const size_t sizes[6] = {1, 7, 9, 23, 25, 257 * DESK_FORMULA_BYTES};
+        table other = resized(formulas, sizes[len]);
+        check("formulas size", ask, net, other, tree, DESK_BAD_FORMULAS_SIZE, 0);
+    }
+    for (size_t len = 0; len <= 5; len++) {
+        static const size_t sizes[6] = {1, 39, 41, 919, 921, 65537u * DESK_NODE_BYTES};
+        table other = resized(tree, sizes[len]);
+        check("tree size", ask, net, formulas, other, DESK_BAD_TREE_SIZE, 0);
+    }
+    check("places 0", ask_r(3, 2, 0, 0), net, formulas, tree, DESK_BAD_ASK, 0);
+    check("places 65", ask_r(3, 2, 65, 0), net, formulas, tree, DESK_BAD_ASK, 0);
+    check("side 2", ask_r(3, 2, 3, 2), net, formulas, tree, DESK_BAD_ASK, 0);
+    check("two places", ask_r(3, 2, 2, 0), net, formulas, tree, DESK_BAD_TRANSITION, 1);
+    check("spare byte", ask, changed(net, 71, 1), formulas, tree, DESK_BAD_TRANSITION, 2);
+    check("not of itself", ask, net, changed(formulas, 0, 1), tree, DESK_BAD_FORMULA, 0);
+    check("operand not lower", ask, net, changed(formulas, 20, 2), tree, DESK_BAD_FORMULA, 2);
+    check("marking beyond", ask_r(11, 2, 3, 0), net, formulas, tree, DESK_BAD_MARKING, 0);
+    check("formula beyond", ask_r(3, 3, 3, 0), net, formulas, tree, DESK_BAD_MARKING, 0);
+    uint64_t top = UINT64_C(1) << 63;
+    check("bit 63 of 63", ask_r(top, 2, 63, 0), net, formulas, tree, DESK_BAD_MARKING, 0);
+    check("bit 63 of 64", ask_r(top, 2, 64, 0), net, formulas, tree, DESK_FAULT_ROOT, 0);
+}
+
+static void sizes_at_the_limit(void)
+{
+    table ask = ask_r(0, 0, 64, DESK_HOLDS);
+    table net = empty_table(DESK_TRANSITIONS_MAX * DESK_TRANSITION_BYTES);
+    table formulas = empty_table(DESK_FORMULAS_MAX * DESK_FORMULA_BYTES);
+    table tree = empty_table((size_t)DESK_NODES_MAX * DESK_NODE_BYTES);
+    tree.bytes[35] = 15;
+    check("full tables", ask, net, formulas, tree, DESK_FAULT_LINKS, 1);
+    tree.len = DESK_NODE_BYTES;
+    check("one node", ask, net, formulas, tree, DESK_GRANTED, 1);
+}
+
+static void firings(void)
+{
+    table r = net_r(3), nothing = empty_table(DESK_TRANSITION_BYTES);
+    table step = empty_table(DESK_TRANSITION_BYTES);
+    uint64_t top = UINT64_C(1) << 63;
+    put_transition(step.bytes, 1, 2, 0);
+    fire("1 to 2 at 1", 2, 1, step, 0, DESK_GRANTED, 0, 2);
+    fire("1 to 2 at 3", 2, 3, step, 0, DESK_NOT_ENABLED, 0, 0);
+    fire("1 to 1 at 1", 3, 1, r, 0, DESK_GRANTED, 0, 1);
+    fire("no place touched", 64, top, nothing, 0, DESK_GRANTED, 0, top);
+    fire("R fires 1", 3, 3, r, 1, DESK_GRANTED, 0, 5);
+    fire("R fires 2", 3, 3, r, 2, DESK_NOT_ENABLED, 0, 0);
+    fire("R fires 3", 3, 3, r, 3, DESK_NO_TRANSITION, 0, 0);
+    fire("R fires 259", 3, 3, r, 259, DESK_NO_TRANSITION, 0, 0);
+    fire("R fires the largest", 3, 3, r, UINT32_MAX, DESK_NO_TRANSITION, 0, 0);
+    fire("places 0", 0, 3, r, 0, DESK_BAD_ASK, 0, 0);
+    fire("places 65", 65, 3, r, 0, DESK_BAD_ASK, 0, 0);
+    fire("places 259", 259, 3, r, 0, DESK_BAD_ASK, 0, 0);
+    fire("two places", 2, 3, r, 0, DESK_BAD_TRANSITION, 1, 0);
+    fire("marking beyond", 3, 8, r, 3, DESK_BAD_MARKING, 0, 0);
+    fire("bit 63 of 63", 63, top, r, 0, DESK_BAD_MARKING, 0, 0);
+    fire("NULL with 0", 3, 3, NOTHING, 0, DESK_BAD_NET_SIZE, 0, 0);
+    for (size_t len = 0; len <= 4 * DESK_TRANSITION_BYTES; len++) {
+        table other = resized(r, len);
+        size_t records = len % DESK_TRANSITION_BYTES == 0 ? len / DESK_TRANSITION_BYTES : 0;
+        uint32_t number = records == 0 ? DESK_BAD_NET_SIZE
+                          : records == 1 ? DESK_NO_TRANSITION : DESK_GRANTED;
+        fire("net size", 3, 3, other, 1, number, 0, number == 0 ? 5 : 0);
+    }
+}
+
+static void labels(void)
+{
+    table house = empty_table(3 * DESK_CATEGORY_BYTES);
+    table translation = empty_table(2 * DESK_CATEGORY_BYTES);
+    put_category(house.bytes, 1, 0, 0, "call");
+    put_category(house.bytes + 32, 2, 1, 7, "");
+    put_category(house.bytes + 64, 7, 0, 0, "abcdefghijklmnopqrstuvwx");
+    put_category(translation.bytes, 1, 0, 0, "Ruf");
+    put_category(translation.bytes + 32, 9, 1, 1, "");
+
+    categories("two good files", translation, house, DESK_GRANTED, 0);
+    categories("no files", NOTHING, NOTHING, DESK_GRANTED, 0);
+    label("from the translation", translation, house, 1, DESK_TRANSLATION, 8, 3);
+    label("borrowed in the translation", translation, house, 9, DESK_TRANSLATION, 8, 3);
+    label("from the house", NOTHING, house, 1, DESK_HOUSE, 8, 4);
+    label("borrowed in the house", translation, house, 2, DESK_HOUSE, 72, 24);
+    label("a text of 24", translation, house, 7, DESK_HOUSE, 72, 24);
+    label("no record", translation, house, 3, 0, 0, 0);
+    label("no files", NOTHING, NOTHING, 1, 0, 0, 0);
+
+    table unsorted = changed(house, 64, 2), control = changed(house, 8, 0x1F);
+    table spare = changed(house, 35, 1), kind = changed(house, 34, 2);
+    table gap = changed(house, 73, 0), no_lender = changed(house, 36, 2);
+    categories("action not above the one before", NOTHING, unsorted, DESK_BAD_CATEGORY, 1);
+    categories("a control byte", NOTHING, control, DESK_BAD_CATEGORY, 0);
+    categories("a spare byte", NOTHING, spare, DESK_BAD_CATEGORY, 1);
+    categories("kind 2", NOTHING, kind, DESK_BAD_CATEGORY, 1);
+    categories("a zero inside a text", NOTHING, gap, DESK_BAD_CATEGORY, 2);
+    categories("a lender of kind 1", NOTHING, no_lender, DESK_BAD_CATEGORY, 1);
+    categories("translation before house", gap, control, DESK_BAD_CATEGORY, 2);
+    label("the house is faulty", translation, gap, 1, 0, 0, 0);
+    label("the translation is faulty", gap, house, 1, 0, 0, 0);
+
+    for (size_t len = 0; len <= 3 * DESK_CATEGORY_BYTES; len++) {
+        table other = resized(house, len);
+        uint32_t number = len % DESK_CATEGORY_BYTES != 0 ? DESK_BAD_CATEGORIES_SIZE
+                          : len == 64 ? DESK_BAD_CATEGORY : DESK_GRANTED;
+        categories("house size", translation, other, number, number == 10 ? 1 : 0);
+        label("house size", NOTHING, other, 1, number == 0 && len > 0,
+              number == 0 && len > 0 ? 8 : 0, number == 0 && len > 0 ? 4 : 0);
+    }
+}
+
+static void full_files(void)
+{
+    for (size_t records = 1999; records <= 2001; records++) {
+        table file = empty_table(records * DESK_CATEGORY_BYTES);
+        for (size_t i = 0; i < records; i++) {
+            put_category(file.bytes + i * DESK_CATEGORY_BYTES, i, 0, 0, "x");
+        }
+        int good = records <= DESK_CATEGORIES_MAX;
+        categories("full file", NOTHING, file, good ? DESK_GRANTED : DESK_BAD_CATEGORIES_SIZE, 0);
+        label("last of a full file", file, NOTHING, (uint16_t)(records - 1), 0,
+              good ? (uint32_t)(records - 1) * 32 + 8 : 0, good ? 1 : 0);
+    }
+}
+
+int main(void)
+{
+    samples();
+    give_back();
+    check_refusals();
+    give_back();
+    sizes_at_the_limit();
+    give_back();
+    firings();
+    give_back();
+    labels();
+    give_back();
+    full_files();
+    give_back();
+    if (failed > 0) {
+        printf("%u checks passed, %u failed\n", passed, failed);
+        return 1;
+    }
+    printf("%u checks passed\n", passed);
+    return 0;
+}
