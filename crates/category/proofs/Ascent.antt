@@ -7,10 +7,10 @@ use Prim.Native.Nat.{ℕ, zero, suc, _+_, _-_, _≤_, _<_}
 use native.Mathlib.Nat.{not-suc-le-zero, eq-or-lt-of-le, le-of-suc-le-suc}
 use native.Mathlib.Omega.{arith}
 use lib.Dec.{eqb}
-use borrow.Author.Tests.{ltb-true, ne-eqb, not-false}
-use Rattle.tables.proofs.Entries.{before-first, first-le}
+use borrow.Author.Tests.{ltb-true, ne-eqb, not-true, not-false}
+use Rattle.tables.proofs.Entries.{before-first, at-first, first-le}
 use Rattle.category.specs.Records.{count, actionAt, hasAction, lendsAt}
-use Rattle.category.specs.Faults.{ascends}
+use Rattle.category.specs.Faults.{ascends, recordBad}
 use Rattle.category.specs.Search.{ascending, LowerBound}
 use Rattle.category.proofs.Scan.{lt-or-ge}
 
@@ -40,14 +40,27 @@ rising file n h = record { rises = go }
         by ih (inl e) = subst (λ (x : ℕ). actionAt file x < actionAt file (suc k)) (sym e) next
         by ih (inr q) = let a : actionAt file j < actionAt file k = ih q (omega arith) in omega (arith, next)
 
-pub ascending-rising : (file : List ℕ) (n : ℕ) → n ≡ ascending file → Rising file n
+pub ascending-ascends : (file : List ℕ) (n : ℕ) → n ≡ ascending file → (k : ℕ) → k < n → ascends file k ≡ true
 unfolding ascending
-ascending-rising file n e =
-    rising file n (λ k l. not-false (ascends file k) (before-first (λ i. not (ascends file i)) (count file) k (subst (λ (x : ℕ). k < x) e l)))
+ascending-ascends file n e k l =
+    not-false (ascends file k) (before-first (λ i. not (ascends file i)) (count file) k (subst (λ (x : ℕ). k < x) e l))
+
+pub ascending-rising : (file : List ℕ) (n : ℕ) → n ≡ ascending file → Rising file n
+ascending-rising file n e = rising file n (ascending-ascends file n e)
 
 pub ascending-le : (file : List ℕ) (n : ℕ) → n ≡ ascending file → n ≤ count file
 unfolding ascending
 ascending-le file n e = subst (λ (x : ℕ). x ≤ count file) (sym e) (first-le (λ i. not (ascends file i)) (count file))
+
+-- the record behind those with ascending actions is faulty
+pub ascending-bad : (file : List ℕ) (n i : ℕ) → n ≡ ascending file → n ≤ i → i ≤ n → i < count file → recordBad file i ≡ true
+unfolding ascending recordBad
+ascending-bad file n i e a b l =
+    let q : ascending file ≡ i = omega arith in
+    let z : ascends file i ≡ false =
+    not-true (ascends file i)
+    (subst (λ (x : ℕ). not (ascends file x) ≡ true) q (at-first (λ i. not (ascends file i)) (count file) (omega arith))) in
+    rw z
 
 -- of the first n records those before low have actions below a, and those from high on have not
 pub record Narrowed (file : List ℕ) (a n low high : ℕ) : Type 0 where

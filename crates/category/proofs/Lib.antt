@@ -1,6 +1,7 @@
 -- The laws of category files.
 pub mod Bools
 pub mod Scan
+pub mod Texts
 pub mod Ascent
 pub mod Sources
 pub mod Answers

@@ -6,7 +6,7 @@ use Prim.Native.Nat.{ℕ, _+_, _≤_, _<_, zero-le}
 use native.Mathlib.Nat.{eq-or-lt-of-le}
 use native.Mathlib.Omega.{arith}
 use lib.Dec.{ltb}
-use borrow.Author.Tests.{lt-ltb, eq-eqb, ne-eqb, ltb-true, ltb-false}
+use borrow.Author.Tests.{lt-ltb, eq-eqb, eqb-true, ltb-true, ltb-false}
 use Rattle.tables.specs.Lists.{first}
 use Rattle.tables.proofs.Entries.{first-is, first-none, before-first, at-first, first-le}
 use Rattle.category.specs.Records.{none, some}
@@ -68,13 +68,14 @@ pub some-is : (f : ℕ → Bool) (n k : ℕ) → k < n → f k ≡ true → some
 unfolding some
 some-is f n k l e = lt-ltb (first f n) n (first-below f n k l e)
 
-pub none-not : (f : ℕ → Bool) (n k : ℕ) → k < n → f k ≡ true → none f n ≡ false
+-- none that passes
+pub none-is : (f : ℕ → Bool) (n : ℕ) → ((k : ℕ) → k < n → f k ≡ false) → none f n ≡ true
 unfolding none
-none-not f n k l e = let h : first f n < n = first-below f n k l e in ne-eqb (first f n) n (λ q. omega arith)
+none-is f n h = eq-eqb (first f n) n (first-none f n h)
 
-pub none-all : {f : ℕ → Bool} {n i : ℕ} → Passed f 0 n i → n ≤ i → none f n ≡ true
+pub none-at : (f : ℕ → Bool) (n : ℕ) → none f n ≡ true → (k : ℕ) → k < n → f k ≡ false
 unfolding none
-none-all {f} {n} p l = eq-eqb (first f n) n (sym (passed-all p l))
+none-at f n e k l = before-first f n k (subst (λ (x : ℕ). k < x) (sym (eqb-true (first f n) n e)) l)
 
 -- a scan from a number on, where none before that number passes
 pub lowest-some : {f : ℕ → Bool} {from n r : ℕ} → LowestFrom f from n r → ((k : ℕ) → k < from → f k ≡ false) → ltb r n ≡ some f n

@@ -4,6 +4,7 @@ ghost use mathlib.Core.Bool.{_&&_};
 ghost use Prim.Native.Nat.{_+_, _≤_, _<_};
 ghost use Rattle.category.specs.Records as records;
 ghost use Rattle.category.specs.Faults as faults;
+ghost use Rattle.category.specs.Texts as texts;
 ghost use Rattle.category.specs.Labels as labels;
 ghost use Rattle.category.specs.Search as search;
 
@@ -169,7 +170,7 @@ fn lower_bound(file: &[u8], action: u16, sorted: usize) -> usize
     let mut low: usize = 0;
     let mut high = sorted;
     while low < high {
-        let middle = low + (high - low) / 2;
+        let middle = (low + high) / 2;
         if action_at(file, middle) < action {
             low = middle + 1;
         } else {
@@ -202,29 +203,47 @@ fn good_byte(b: u8) -> bool
     ((0x20 <= b) & (b <= 0x7E)) | (0xA0 <= b)
 }
 
-// Whether byte j of a text is wrong, where the text is to be some good bytes and then zeros.
-fn wrong_byte(size: usize, j: usize, b: u8) -> bool
-    ensures { λ r. ⌜ r ≡ faults.wrongByte size j b ⌝ }
+// Whether a byte may stand behind another in a text: zero, or a good byte behind one that is not zero.
+fn follows(before: u8, b: u8) -> bool
+    ensures { λ r. ⌜ r ≡ texts.follows before b ⌝ }
 {
-    if j < size {
-        return !good_byte(b);
-    }
-    b != 0
+    (b == 0) | ((before != 0) & good_byte(b))
 }
 
-// Whether a record's text is some good bytes and then zeros.
-fn text_is(file: &[u8], i: usize, size: usize) -> bool
-    requires { ⌜ i < records.count (now file) ⌝ }
-    ensures { λ r. ⌜ r ≡ faults.textIs (now (file .entry)) i size ⌝ }
+// Whether each of the 16 bytes behind byte `from` of a record's text may stand behind the byte before it. The loop has no early exit,
+// so that it compiles to a few vector instructions.
+fn run_follows(file: &[u8], i: usize, from: usize) -> bool
+    requires { ⌜ (i < records.count (now file)) × (from ≤ 7) ⌝ }
+    ensures { λ r. ⌜ r ≡ texts.runFollows (now (file .entry)) i from ⌝ }
 {
+    let mut ok = true;
     let mut j: usize = 0;
-    while j < 24 {
-        if wrong_byte(size, j, text_byte(file, i, j)) {
-            return false;
-        }
+    while j < 16 {
+        let before = text_byte(file, i, from + j);
+        let b = text_byte(file, i, from + j + 1);
+        ok = ok & follows(before, b);
         j += 1;
     }
-    true
+    ok
+}
+
+// Whether a record's text is 1 to 24 good bytes, then zeros. The two runs, of bytes 1 to 16 and 8 to 23, overlap.
+fn text_good(file: &[u8], i: usize) -> bool
+    requires { ⌜ i < records.count (now file) ⌝ }
+    ensures { λ r. ⌜ r ≡ texts.textGood (now (file .entry)) i ⌝ }
+{
+    good_byte(text_byte(file, i, 0)) & run_follows(file, i, 0) & run_follows(file, i, 7)
+}
+
+// Whether a record's text is all zero.
+fn text_zero(file: &[u8], i: usize) -> bool
+    requires { ⌜ i < records.count (now file) ⌝ }
+    ensures { λ r. ⌜ r ≡ faults.textIs (now (file .entry)) i 0 ⌝ }
+{
+    let low = tables::u64_at(file, i * 32 + 8);
+    let middle = tables::u64_at(file, i * 32 + 16);
+    let high = tables::u64_at(file, i * 32 + 24);
+    (low == 0) & (middle == 0) & (high == 0)
 }
 
 // Whether a record is good as one with a text of its own.
@@ -232,8 +251,7 @@ fn own_good(file: &[u8], i: usize) -> bool
     requires { ⌜ i < records.count (now file) ⌝ }
     ensures { λ r. ⌜ r ≡ faults.ownGood (now (file .entry)) i ⌝ }
 {
-    let size = text_length(file, i);
-    (lender_at(file, i) == 0) & (1 <= size) & text_is(file, i, size)
+    (lender_at(file, i) == 0) & text_good(file, i)
 }
 
 // Whether a record is good as one with a borrowed text.
@@ -241,7 +259,7 @@ fn borrow_good(file: &[u8], i: usize, sorted: usize) -> bool
     requires { ⌜ (i < records.count (now file)) × (sorted ≡ search.ascending (now file)) ⌝ }
     ensures { λ r. ⌜ r ≡ faults.borrowGood (now (file .entry)) i ⌝ }
 {
-    text_is(file, i, 0) & lends(file, lender_at(file, i), sorted)
+    text_zero(file, i) & lends(file, lender_at(file, i), sorted)
 }
 
 // Whether a record is good as its kind asks.
@@ -259,28 +277,27 @@ fn kind_good(file: &[u8], i: usize, sorted: usize) -> bool
     false
 }
 
-// Whether a record is faulty.
+// Whether a record is faulty, of those at the start of the file with ascending actions.
 fn record_bad(file: &[u8], i: usize, sorted: usize) -> bool
-    requires { ⌜ (i < records.count (now file)) × (sorted ≡ search.ascending (now file)) ⌝ }
+    requires { ⌜ (i < sorted) × (sorted ≡ search.ascending (now file)) ⌝ }
     ensures { λ r. ⌜ r ≡ faults.recordBad (now (file .entry)) i ⌝ }
 {
-    !(ascends(file, i) & spare_zero(file, i) & kind_good(file, i, sorted))
+    !(spare_zero(file, i) & kind_good(file, i, sorted))
 }
 
-// The lowest faulty record, or the number of records.
+// The lowest faulty record, or the number of records. The first record whose action does not ascend is faulty.
 fn first_bad(file: &[u8]) -> usize
     ensures { λ r. ⌜ r ≡ faults.firstBad (now (file .entry)) ⌝ }
 {
-    let n = file.len() / 32;
     let sorted = ascending(file);
     let mut i: usize = 0;
-    while i < n {
+    while i < sorted {
         if record_bad(file, i, sorted) {
             return i;
         }
         i += 1;
     }
-    n
+    i
 }
 
 // The check of one file.

@@ -4,8 +4,8 @@ use Rattle.category.specs.Faults.{borrowGood}
 use Rattle.category.proofs.borrow_good.Statement.{statement}
 use Rattle.category.proofs.borrow_good.Tie as tie
 
-text-is-requires : tie.Need-text-is-requires
-text-is-requires c κs = search needs
+text-zero-requires : tie.Need-text-zero-requires
+text-zero-requires c κs = search needs
 
 lender-at-requires : tie.Need-lender-at-requires
 lender-at-requires c κs = search needs
@@ -15,7 +15,8 @@ lends-requires c κs = search needs
 
 returns : tie.Need-returns
 unfolding borrowGood
-returns c = simp (c .lends .ensures, c .before .lender-at .ensures, c .before .before .text-is .ensures)
+returns c = simp (c .lends .ensures, c .before .lender-at .ensures, c .before .before .text-zero .ensures)
 
 pub borrow-good-spec : {M : Type 1} → statement M
-borrow-good-spec = tie.close (tie.spec text-is-requires lender-at-requires lends-requires returns)
+borrow-good-spec =
+    tie.close (tie.spec text-zero-requires lender-at-requires lends-requires returns)

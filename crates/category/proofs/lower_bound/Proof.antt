@@ -16,11 +16,8 @@ abbrev μ-loop : tie.MeasureT-loop
 loop-holds : tie.Need-loop-holds Inv-loop μ-loop
 loop-holds c = narrowed-none _ _ _
 
-sub-middle : tie.Need-sub-middle Inv-loop μ-loop
-sub-middle c = search needs
-
 add-middle : tie.Need-add-middle Inv-loop μ-loop
-add-middle c = search needs
+add-middle c = omega (arith, ascending-le _ _ (c .before .before .before .pre))
 
 action-at-requires : tie.Need-action-at-requires Inv-loop μ-loop
 action-at-requires c κs = omega (arith, ascending-le _ _ (c .before .before .before .pre))
@@ -61,7 +58,6 @@ lower-bound-spec =
     Inv-loop
     μ-loop
     loop-holds
-    sub-middle
     add-middle
     action-at-requires
     add-low

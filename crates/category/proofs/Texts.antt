@@ -1,0 +1,237 @@
+-- The text of a record, byte by byte: what the two runs of a text of its own say together, and three zero words as a text that is all
+-- zero. Assumes nothing.
+use mathlib.Core.Path.{_≡_, refl, sym, ap, ap₂, _∙_, subst}
+use mathlib.Core.Bool.{Bool, true, false, not, _&&_, _||_, or-true, or-false, false≢true}
+use mathlib.Core.Logic.{_⊎_, ⊎-elim}
+use mathlib.Core.List.{List}
+use Prim.Native.Nat.{ℕ, zero, suc, _+_, _-_, _*_, _≤_, _<_, zero-le}
+use native.Mathlib.Nat.{not-suc-le-zero, le-of-suc-le-suc, eq-or-lt-of-le, zero-add}
+use native.Mathlib.Numerals.{add-one}
+use native.Mathlib.Omega.{arith}
+use lib.ListN.{getD, drop}
+use lib.Seq.{getD-drop}
+use lib.Dec.{eqb, leb}
+use borrow.Author.Tests.{lt-ltb, le-ltb, le-leb, leb-true, eq-eqb, eqb-true, not-false}
+use Rattle.tables.specs.Bytes.{little, field}
+use Rattle.tables.specs.Lists.{first}
+use Rattle.tables.proofs.Entries.{before-first, at-first}
+use Rattle.category.specs.Records.{none, textByte, textLength}
+use Rattle.category.specs.Faults.{goodByte, wrongByte, textIs}
+use Rattle.category.specs.Texts.{every, follows, runFollows, textGood}
+use Rattle.category.proofs.Bools.{and-left, and-right, same-truth}
+use Rattle.category.proofs.Scan.{lt-or-ge, none-is, none-at}
+
+-- ---- every number below n passes
+
+-- a loop's next turn, and its end
+pub every-next : (f : ℕ → Bool) (n : ℕ) {ok b : Bool} → ok ≡ every f n → b ≡ f n → (ok && b) ≡ every f (n + 1)
+unfolding every
+every-next f n p q = ap₂ _&&_ p q ∙ ap (every f) (sym (add-one n))
+
+pub every-done : (f : ℕ → Bool) (n j : ℕ) {ok : Bool} → ok ≡ every f j → j ≤ n → n ≤ j → ok ≡ every f n
+every-done f n j p a b = let e : j ≡ n = omega arith in p ∙ ap (every f) e
+
+every-at : (f : ℕ → Bool) (n k : ℕ) → every f n ≡ true → k < n → f k ≡ true
+unfolding every
+every-at f zero k e l = absurd (not-suc-le-zero l)
+every-at f (suc n) k e l =
+    ⊎-elim
+    (λ q. subst (λ (x : ℕ). f x ≡ true) (sym q) (and-right (every f n) (f n) e))
+    (λ q. every-at f n k (and-left (every f n) (f n) e) q)
+    (eq-or-lt-of-le (le-of-suc-le-suc l))
+
+every-is : (f : ℕ → Bool) (n : ℕ) → ((k : ℕ) → k < n → f k ≡ true) → every f n ≡ true
+unfolding every
+every-is f zero h = refl
+every-is f (suc n) h = ap₂ _&&_ (every-is f n (λ k l. h k (omega arith))) (h n (omega arith))
+
+-- ---- one byte
+
+follows-zero : (a b : ℕ) → follows a b ≡ true → eqb a 0 ≡ true → eqb b 0 ≡ true
+unfolding follows
+follows-zero a b e z = sym (or-false (eqb b 0)) ∙ (rw z at e)
+
+follows-good : (a b : ℕ) → follows a b ≡ true → eqb b 0 ≡ false → goodByte b ≡ true
+unfolding follows
+follows-good a b e z = and-right (not (eqb a 0)) (goodByte b) (rw z at e)
+
+zero-follows : (a b : ℕ) → eqb b 0 ≡ true → follows a b ≡ true
+unfolding follows
+zero-follows a b z = rw z
+
+good-follows : (a b : ℕ) → eqb a 0 ≡ false → goodByte b ≡ true → follows a b ≡ true
+unfolding follows
+good-follows a b z g = rw (z, g) (or-true (eqb b 0))
+
+wrong-before : (size j b : ℕ) → j < size → wrongByte size j b ≡ not (goodByte b)
+unfolding wrongByte
+wrong-before size j b l = rw (lt-ltb j size l)
+
+wrong-behind : (size j b : ℕ) → size ≤ j → wrongByte size j b ≡ not (eqb b 0)
+unfolding wrongByte
+wrong-behind size j b l = rw (le-ltb j size l)
+
+zero-not-good : goodByte 0 ≡ true → ⊥
+unfolding goodByte
+zero-not-good e = false≢true e
+
+-- ---- a text of 24 bytes
+
+abbrev sizeOf : (ℕ → ℕ) → ℕ
+sizeOf t = first (λ j. eqb (t j) 0) 24
+
+abbrev run : (ℕ → ℕ) → ℕ → Bool
+run t from = every (λ k. follows (t (from + k)) (t (from + k + 1))) 16
+
+module _ (t : ℕ → ℕ) where
+  -- the two runs, and each byte behind another
+  runs-follow : run t 0 ≡ true → run t 7 ≡ true → (k : ℕ) → k < 23 → follows (t k) (t (k + 1)) ≡ true
+  runs-follow a b k l =
+      ⊎-elim
+      (λ q. subst (λ (x : ℕ). follows (t x) (t (x + 1)) ≡ true) (zero-add k) (every-at (λ k. follows (t (0 + k)) (t (0 + k + 1))) 16 k a q))
+      (λ q. let e : 7 + (k - 7) ≡ k = omega arith in
+      subst (λ (x : ℕ). follows (t x) (t (x + 1)) ≡ true) e (every-at (λ k. follows (t (7 + k)) (t (7 + k + 1))) 16 (k - 7) b (omega arith)))
+      (lt-or-ge k 16)
+
+  follow-run : ((k : ℕ) → k < 23 → follows (t k) (t (k + 1)) ≡ true) → (from : ℕ) → from ≤ 7 → run t from ≡ true
+  follow-run h from l = every-is (λ k. follows (t (from + k)) (t (from + k + 1))) 16 (λ k q. h (from + k) (omega arith))
+
+  -- a good first byte, and each of the others may stand behind the one before it: no byte is wrong
+  module _ (g : goodByte (t 0) ≡ true) (h : (k : ℕ) → k < 23 → follows (t k) (t (k + 1)) ≡ true) where
+    next : (k : ℕ) → k < 23 → follows (t k) (t (suc k)) ≡ true
+    next k l = subst (λ (x : ℕ). follows (t k) (t x) ≡ true) (add-one k) (h k l)
+
+    zeros : (j : ℕ) → sizeOf t ≤ j → j < 24 → eqb (t j) 0 ≡ true
+    zeros zero l m =
+        let e : sizeOf t ≡ 0 = omega arith in
+        subst (λ (x : ℕ). eqb (t x) 0 ≡ true) e (at-first (λ j. eqb (t j) 0) 24 (omega arith))
+    zeros (suc j) l m =
+        ⊎-elim
+        (λ e. subst (λ (x : ℕ). eqb (t x) 0 ≡ true) e (at-first (λ j. eqb (t j) 0) 24 (omega arith)))
+        (λ q. follows-zero (t j) (t (suc j)) (next j (omega arith)) (zeros j (le-of-suc-le-suc q) (omega arith)))
+        (eq-or-lt-of-le l)
+
+    goods : (j : ℕ) → j < sizeOf t → j < 24 → goodByte (t j) ≡ true
+    goods zero l m = g
+    goods (suc j) l m = follows-good (t j) (t (suc j)) (next j (omega arith)) (before-first (λ j. eqb (t j) 0) 24 (suc j) l)
+
+    none-wrong : (j : ℕ) → j < 24 → wrongByte (sizeOf t) j (t j) ≡ false
+    none-wrong j m =
+        ⊎-elim
+        (λ l. wrong-before (sizeOf t) j (t j) l ∙ ap not (goods j l m))
+        (λ l. wrong-behind (sizeOf t) j (t j) l ∙ ap not (zeros j l m))
+        (lt-or-ge j (sizeOf t))
+
+    one-byte : 1 ≤ sizeOf t
+    one-byte =
+        ⊎-elim
+        (λ l. absurd (zero-not-good (subst (λ (x : ℕ). goodByte x ≡ true) (eqb-true (t 0) 0 (zeros 0 (omega arith) (omega arith))) g)))
+        (λ l. l)
+        (lt-or-ge (sizeOf t) 1)
+
+  -- and the other way round
+  module _ (s : 1 ≤ sizeOf t) (h : (j : ℕ) → j < 24 → wrongByte (sizeOf t) j (t j) ≡ false) where
+    good-at : (j : ℕ) → j < sizeOf t → j < 24 → goodByte (t j) ≡ true
+    good-at j l m = not-false (goodByte (t j)) (sym (wrong-before (sizeOf t) j (t j) l) ∙ h j m)
+
+    zero-at : (j : ℕ) → sizeOf t ≤ j → j < 24 → eqb (t j) 0 ≡ true
+    zero-at j l m = not-false (eqb (t j) 0) (sym (wrong-behind (sizeOf t) j (t j) l) ∙ h j m)
+
+    follow-all : (k : ℕ) → k < 23 → follows (t k) (t (k + 1)) ≡ true
+    follow-all k m =
+        ⊎-elim
+        (λ l. good-follows (t k) (t (k + 1)) (before-first (λ j. eqb (t j) 0) 24 k (omega arith)) (good-at (k + 1) l (omega arith)))
+        (λ l. zero-follows (t k) (t (k + 1)) (zero-at (k + 1) l (omega arith)))
+        (lt-or-ge (k + 1) (sizeOf t))
+
+  runs-good : (goodByte (t 0) && run t 0 && run t 7) ≡ (leb 1 (sizeOf t) && none (λ j. wrongByte (sizeOf t) j (t j)) 24)
+  runs-good = same-truth _ _ to from
+    where
+      to : (goodByte (t 0) && run t 0 && run t 7) ≡ true → (leb 1 (sizeOf t) && none (λ j. wrongByte (sizeOf t) j (t j)) 24) ≡ true
+      to e =
+          let p : (goodByte (t 0) && run t 0) ≡ true = and-left (goodByte (t 0) && run t 0) (run t 7) e in
+          let g : goodByte (t 0) ≡ true = and-left (goodByte (t 0)) (run t 0) p in
+          let h : (k : ℕ) → k < 23 → follows (t k) (t (k + 1)) ≡ true =
+          runs-follow (and-right (goodByte (t 0)) (run t 0) p) (and-right (goodByte (t 0) && run t 0) (run t 7) e) in
+          ap₂ _&&_ (le-leb 1 (sizeOf t) (one-byte g h)) (none-is (λ j. wrongByte (sizeOf t) j (t j)) 24 (none-wrong g h))
+
+      from : (leb 1 (sizeOf t) && none (λ j. wrongByte (sizeOf t) j (t j)) 24) ≡ true → (goodByte (t 0) && run t 0 && run t 7) ≡ true
+      from e =
+          let s : 1 ≤ sizeOf t = leb-true 1 (sizeOf t) (and-left (leb 1 (sizeOf t)) (none (λ j. wrongByte (sizeOf t) j (t j)) 24) e) in
+          let h : (j : ℕ) → j < 24 → wrongByte (sizeOf t) j (t j) ≡ false =
+          none-at (λ j. wrongByte (sizeOf t) j (t j)) 24 (and-right (leb 1 (sizeOf t)) (none (λ j. wrongByte (sizeOf t) j (t j)) 24) e) in
+          ap₂ _&&_ (ap₂ _&&_ (good-at s h 0 s (omega arith)) (follow-run (follow-all s h) 0 zero-le)) (follow-run (follow-all s h) 7 (omega arith))
+
+pub text-good : (file : List ℕ) (i : ℕ) → (goodByte (textByte file i 0) && runFollows file i 0 && runFollows file i 7) ≡ textGood file i
+unfolding textGood textIs textLength runFollows
+text-good file i = runs-good (textByte file i)
+
+-- ---- zero bytes
+
+little-zero : (n : ℕ) (l : List ℕ) → little n l ≡ 0 → (k : ℕ) → k < n → getD l k 0 ≡ 0
+unfolding little
+little-zero zero l e k m = absurd (not-suc-le-zero m)
+little-zero (suc n) l e zero m = omega arith
+little-zero (suc n) l e (suc k) m =
+    let z : little n (drop 1 l) ≡ 0 = omega arith in
+    let q : 1 + k ≡ suc k = omega arith in
+    subst (λ (x : ℕ). getD l x 0 ≡ 0) q (sym (getD-drop 1 l k 0) ∙ little-zero n (drop 1 l) z k (le-of-suc-le-suc m))
+
+zero-little : (n : ℕ) (l : List ℕ) → ((k : ℕ) → k < n → getD l k 0 ≡ 0) → little n l ≡ 0
+unfolding little
+zero-little zero l h = refl
+zero-little (suc n) l h =
+    let a : getD l 0 0 ≡ 0 = h 0 (omega arith) in
+    let b : little n (drop 1 l) ≡ 0 = zero-little n (drop 1 l) (λ k m. getD-drop 1 l k 0 ∙ h (1 + k) (omega arith)) in
+    omega arith
+
+-- the n bytes from p on, among those from `at` on
+field-zero : (n p at : ℕ) (l : List ℕ) → field n p l ≡ 0 → (j : ℕ) → p ≤ at + j → at + j < p + n → getD l (at + j) 0 ≡ 0
+unfolding field
+field-zero n p at l e j a b =
+    let q : p + (at + j - p) ≡ at + j = omega arith in
+    subst (λ (x : ℕ). getD l x 0 ≡ 0) q (sym (getD-drop p l (at + j - p) 0) ∙ little-zero n (drop p l) e (at + j - p) (omega arith))
+
+zero-field : (n p at m : ℕ) (l : List ℕ) → ((j : ℕ) → j < m → getD l (at + j) 0 ≡ 0) → at ≤ p → p + n ≤ at + m → field n p l ≡ 0
+unfolding field
+zero-field n p at m l h a b = zero-little n (drop p l) (λ k q. getD-drop p l k 0 ∙ each k q)
+  where
+    each : (k : ℕ) → k < n → getD l (p + k) 0 ≡ 0
+    each k q = let e : at + (p + k - at) ≡ p + k = omega arith in subst (λ (x : ℕ). getD l x 0 ≡ 0) e (h (p + k - at) (omega arith))
+
+module _ (file : List ℕ) (i : ℕ) where
+  abbrev word : ℕ → Bool
+  word p = eqb (field 8 (i * 32 + p) file) 0
+
+  words-zero : word 8 ≡ true → word 16 ≡ true → word 24 ≡ true → (j : ℕ) → j < 24 → textByte file i j ≡ 0
+  unfolding textByte
+  words-zero a b c j l =
+      ⊎-elim
+      (λ p. field-zero 8 (i * 32 + 8) (i * 32 + 8) file (eqb-true _ _ a) j (omega arith) (omega arith))
+      (λ p. ⊎-elim
+      (λ q. field-zero 8 (i * 32 + 16) (i * 32 + 8) file (eqb-true _ _ b) j (omega arith) (omega arith))
+      (λ q. field-zero 8 (i * 32 + 24) (i * 32 + 8) file (eqb-true _ _ c) j (omega arith) (omega arith))
+      (lt-or-ge j 16))
+      (lt-or-ge j 8)
+
+  zero-word : ((j : ℕ) → j < 24 → textByte file i j ≡ 0) → (p : ℕ) → 8 ≤ p → p ≤ 24 → word p ≡ true
+  unfolding textByte
+  zero-word h p a b = eq-eqb _ _ (zero-field 8 (i * 32 + p) (i * 32 + 8) 24 file h (omega arith) (omega arith))
+
+  pub zero-words : (word 8 && word 16 && word 24) ≡ textIs file i 0
+  unfolding textIs
+  zero-words = same-truth _ _ to from
+    where
+      to : (word 8 && word 16 && word 24) ≡ true → none (λ j. wrongByte 0 j (textByte file i j)) 24 ≡ true
+      to e =
+          let p : (word 8 && word 16) ≡ true = and-left (word 8 && word 16) (word 24) e in
+          let z : (j : ℕ) → j < 24 → textByte file i j ≡ 0 =
+          words-zero (and-left (word 8) (word 16) p) (and-right (word 8) (word 16) p) (and-right (word 8 && word 16) (word 24) e) in
+          none-is (λ j. wrongByte 0 j (textByte file i j)) 24 (λ j l. wrong-behind 0 j _ zero-le ∙ ap not (eq-eqb _ _ (z j l)))
+
+      from : none (λ j. wrongByte 0 j (textByte file i j)) 24 ≡ true → (word 8 && word 16 && word 24) ≡ true
+      from e =
+          let z : (j : ℕ) → j < 24 → textByte file i j ≡ 0 =
+          λ j l. eqb-true _ _ (not-false _ (sym (wrong-behind 0 j _ zero-le) ∙ none-at (λ j. wrongByte 0 j (textByte file i j)) 24 e j l)) in
+          ap₂ _&&_ (ap₂ _&&_ (zero-word z 8 (omega arith) (omega arith)) (zero-word z 16 (omega arith) (omega arith)))
+          (zero-word z 24 (omega arith) (omega arith))
