@@ -1,12 +1,9 @@
 // Runs the samples of document 01 and prints a line for each: a name, then the answer in document 01's numbers.
-mod labels;
-mod nets;
-mod trees;
-mod walks;
-
 fn main() {
-    nets::run();
-    walks::run();
-    labels::run();
-    trees::run();
+    sample_nets::run();
+    sample_walks::run();
+    sample_loaded::run();
+    sample_labels::run();
+    sample_files::run();
+    sample_trees::run();
 }

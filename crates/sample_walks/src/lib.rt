@@ -1,0 +1,205 @@
+// The samples of the calls of a walk. A line has a name and the answer's number and record; where the walk is read, marking and count follow.
+ghost use mathlib.Core.Path.{_≡_};
+ghost use Rattle.walk.specs.Calls as says;
+use net::Numbers;
+use sample_lines::end;
+use sample_lines::number;
+use sample_lines::print;
+use walk::Answer;
+use walk::Walk;
+
+// ---- one line
+
+// Starts a line.
+pub fn begin(name: &[u8]) {
+    print(b"walk, ");
+    print(name);
+}
+
+// An answer in document 01's numbers.
+fn numbers(answer: Answer) -> Numbers
+    ensures { λ r. ⌜ (r .number ≡ says.answerOf answer .number) × (r .place ≡ says.answerOf answer .place) ⌝ }
+{
+    match answer {
+        Answer::Granted => Numbers {
+            number: 0,
+            place: 0,
+            marking: 0,
+        },
+        Answer::Unloaded => Numbers {
+            number: 40,
+            place: 0,
+            marking: 0,
+        },
+        Answer::Refused(why) => net::refusal_numbers(why),
+        Answer::Full => Numbers {
+            number: 42,
+            place: 0,
+            marking: 0,
+        },
+    }
+}
+
+// Prints an answer's number and record.
+pub fn told(answer: Answer) {
+    let said = numbers(answer);
+    number(said.number as u64);
+    number(said.place);
+}
+
+// Reads the walk, and prints the answer, the marking and the count.
+pub fn told_reading(walk: Walk) {
+    let reading = walk.read();
+    let answer = reading.answer;
+    told(answer);
+    number(reading.marking);
+    number(reading.count as u64);
+}
+
+// Loads a net and prints the answer; the walk after it.
+fn load(name: &[u8], walk: Walk, places: u32, marking: u64, net: &[u8]) -> Walk
+    ensures { λ r. ⌜ r ≡ says.loadWalk walk places marking (now (net .entry)) ⌝ }
+{
+    let outcome = walk.load(places, marking, net);
+    let answer = outcome.answer;
+    begin(name);
+    told(answer);
+    end();
+    outcome.walk
+}
+
+// Fires a transition and prints the answer; the walk after it.
+pub fn fire(name: &[u8], walk: Walk, transition: u32) -> Walk
+    ensures { λ r. ⌜ r ≡ says.fireWalk walk transition ⌝ }
+{
+    let outcome = walk.fire(transition);
+    let answer = outcome.answer;
+    begin(name);
+    told(answer);
+    end();
+    outcome.walk
+}
+
+// Resets the walk and prints the answer; the walk after it.
+pub fn reset(name: &[u8], walk: Walk) -> Walk
+    ensures { λ r. ⌜ r ≡ says.resetWalk walk ⌝ }
+{
+    let outcome = walk.reset();
+    let answer = outcome.answer;
+    begin(name);
+    told(answer);
+    end();
+    outcome.walk
+}
+
+// Reads the walk and prints the answer, the marking and the count.
+pub fn read(name: &[u8], walk: Walk) {
+    begin(name);
+    told_reading(walk);
+    end();
+}
+
+// Prints what the walk carries of a transition: pre set, post set and action.
+fn entry(name: &[u8], walk: Walk, t: usize) {
+    begin(name);
+    if t < 64 {
+        number(walk.pre[t]);
+        number(walk.post[t]);
+        number(walk.action[t] as u64);
+    }
+    end();
+}
+
+// ---- nets
+
+// The bytes of net R: t0 1→1 action 1; t1 2→4 action 2; t2 4→0 action 3.
+fn net_r() -> [u8; 72] {
+    *b"\x01\0\0\0\0\0\0\0\x01\0\0\0\0\0\0\0\x01\0\0\0\0\0\0\0\x02\0\0\0\0\0\0\0\x04\0\0\0\0\0\0\0\x02\0\0\0\0\0\0\0\x04\0\0\0\0\0\0\0\0\0\0\0\0\0\0\0\x03\0\0\0\0\0\0\0"
+}
+
+// R loaded with 3 places at marking 3.
+pub fn walk_r() -> Walk {
+    let net = net_r();
+    let outcome = Walk::new().load(3, 3, &net);
+    outcome.walk
+}
+
+// ---- samples
+
+// The starred ones, and the other calls of a walk that is not loaded.
+fn starred() {
+    let new = Walk::new();
+    fire(b"unloaded, fire 0:", new, 0);
+    reset(b"unloaded, reset:", new);
+    read(b"unloaded, read:", new);
+    let net = net_r();
+    let r = load(b"load R:", new, 3, 3, &net);
+    read(b"R, read:", r);
+    fire(b"R, fire 3:", r, 3);
+    fire(b"R, fire 2:", r, 2);
+    let moved = fire(b"R, fire 1:", r, 1);
+    read(b"R, fire 1, read:", moved);
+}
+
+// Loads that are refused for the number of places or of transitions.
+fn refused_sizes() {
+    let new = Walk::new();
+    let zeros = [0u8; 1560];
+    load(b"load, no places:", new, 0, 0, &zeros[..24]);
+    load(b"load, 65 places:", new, 65, 0, &zeros[..24]);
+    load(b"load, no bytes:", new, 1, 0, &zeros[..0]);
+    load(b"load, 71 bytes:", new, 1, 0, &zeros[..71]);
+    load(b"load, 65 transitions:", new, 1, 0, &zeros);
+    load(b"load, 64 transitions:", new, 1, 0, &zeros[..1536]);
+    load(b"load, no places, 71 bytes:", new, 0, 0, &zeros[..71]);
+    load(b"load, 71 bytes, marking 8:", new, 1, 8, &zeros[..71]);
+}
+
+// Loads that are refused for a record or the marking.
+fn refused_sets() {
+    let new = Walk::new();
+    let net = net_r();
+    load(b"load R, 2 places:", new, 2, 3, &net);
+    load(b"load R, marking 8:", new, 3, 8, &net);
+    load(b"load R, 2 places, marking 8:", new, 2, 8, &net);
+    let mut spare = [0u8; 72];
+    spare[71] = 1;
+    load(b"load, spare byte of t2:", new, 1, 0, &spare);
+}
+
+// A refused load leaves the walk; a load over a load replaces it, and the entries behind the new net's are zero.
+fn replaced() {
+    let net = net_r();
+    let moved = fire(b"R, fire 1:", walk_r(), 1);
+    let same = load(b"R, fire 1, load R, marking 8:", moved, 3, 8, &net);
+    read(b"R, fire 1, refused load, read:", same);
+    entry(b"R, t2:", same, 2);
+    let forward = *b"\x01\0\0\0\0\0\0\0\x02\0\0\0\0\0\0\0\x07\0\0\0\0\0\0\0";
+    let one = load(b"load 1->2 over R:", same, 2, 1, &forward);
+    read(b"1->2 over R, read:", one);
+    entry(b"1->2 over R, t0:", one, 0);
+    entry(b"1->2 over R, t1:", one, 1);
+    entry(b"1->2 over R, t2:", one, 2);
+    fire(b"1->2 over R, fire 1:", one, 1);
+}
+
+// Three firings, then the start marking again.
+fn again() {
+    let one = fire(b"R, fire 1:", walk_r(), 1);
+    let two = fire(b"R, fire 1 0:", one, 0);
+    let three = fire(b"R, fire 1 0 2:", two, 2);
+    read(b"R, fire 1 0 2, read:", three);
+    let back = reset(b"R, fire 1 0 2, reset:", three);
+    read(b"R, reset, read:", back);
+    let moved = fire(b"R, reset, fire 1:", back, 1);
+    read(b"R, reset, fire 1, read:", moved);
+}
+
+// All samples of the calls of a walk.
+pub fn run() {
+    starred();
+    refused_sizes();
+    refused_sets();
+    replaced();
+    again();
+}
