@@ -1,12 +1,10 @@
 // The input checks 1 to 7.
 ghost use mathlib.Core.Path.{_≡_};
 ghost use Rattle.net.specs.Answer as net;
-ghost use Rattle.checker.specs.Nodes as nodes;
 ghost use Rattle.checker.specs.Outcomes as outcomes;
-use crate::Ask;
 use crate::InputFault;
-use crate::read;
 use net::Refusal;
+use nodes::Ask;
 use tables::RecordCount;
 
 // A refusal of the net's table by its number and record.
@@ -90,7 +88,7 @@ pub fn check_input(ask: &[u8], net: &[u8], formulas: &[u8], tree: &[u8]) -> Inpu
             place: 0,
         };
     }
-    let a = read::ask_of(ask);
+    let a = nodes::read::ask_of(ask);
     if !((1 <= a.places) & (a.places <= 64) & (a.side <= 1)) {
         return InputFault {
             number: 1,

@@ -14,13 +14,14 @@ use lib.Count as count
 use Rattle.pctl.specs.Table as formulas
 use Rattle.tableau.specs.Rows as rows
 use Rattle.tableau.specs.Rules as rules
-use Rattle.checker.specs.Nodes as nodes
-use Rattle.checker.specs.Links as links
-use Rattle.checker.specs.Trails as trails
-use Rattle.checker.specs.Faults as judged
+use Rattle.nodes.specs.Nodes as nodes
+use Rattle.nodes.specs.Links as links
+use Rattle.nodes.specs.Trails as trails
+use Rattle.family.specs.Family as family
+use Rattle.faults.specs.Faults as judged
 use Rattle.checker.specs.Outcomes as outcomes
 use Rattle.samples.specs.Starred.{starred, Agree}
 
 pub agree : Agree starred
-unfolding starred Agree sets.member sets.subset sets.disjoint sets.difference sets.union sets.within sets.collect numbers.little numbers.field lists.tab lists.upTo lists.first sizes.sized faults.scanFault step.permits step.moved step.clash step.enabled step.fired step.touched step.conflict step.conflicts table.preAt table.postAt table.actionAt table.spareAt table.transitions table.netOf table.placesGood table.tableSized table.recordBad answer.tableFault answer.loadFault answer.stepAnswer answer.firing state.netIn state.startedAt state.movedTo state.empty state.allBelow state.setsWithin state.transitionsGood state.loaded calls.granted calls.loadAnswer calls.loadWalk calls.fireAnswer calls.fireWalk calls.loadedAnswer calls.readMarking calls.readCount count.onesIn count.ones sets.passing step.next step.urgent step.urgents step.keptAfter formulas.operatorAt formulas.spareAt formulas.leftAt formulas.rightAt formulas.actionAt formulas.formulas formulas.hasLeft formulas.hasRight formulas.hasAction formulas.operandGood formulas.fieldsGood formulas.formulaBad formulas.formulasSized formulas.formulasFault rows.table rows.rowOf rules.fits rules.elem rules.named rules.metBy rules.condition rules.sameAfter rules.nextOf rules.nextNamed rules.childrenOf rules.children rules.childTrail rules.carried rules.ranges rules.inRange nodes.askOf nodes.nodes nodes.sequentAt nodes.nodeAt links.every links.counts links.parentGood links.named links.childrenGood links.linksGood trails.continues trails.trailTo trails.trail trails.onTrail judged.same judged.agree judged.rootGood judged.faultAt outcomes.askGood outcomes.treeSized outcomes.askInside outcomes.lastFault outcomes.restFault outcomes.inputFault outcomes.netFor outcomes.bad outcomes.firstBad outcomes.scanned outcomes.checkOutcome
+unfolding starred Agree sets.member sets.subset sets.disjoint sets.difference sets.union sets.within sets.collect numbers.little numbers.field lists.tab lists.upTo lists.first sizes.sized faults.scanFault step.permits step.moved step.clash step.enabled step.fired step.touched step.conflict step.conflicts table.preAt table.postAt table.actionAt table.spareAt table.transitions table.netOf table.placesGood table.tableSized table.recordBad answer.tableFault answer.loadFault answer.stepAnswer answer.firing state.netIn state.startedAt state.movedTo state.empty state.allBelow state.setsWithin state.transitionsGood state.loaded calls.granted calls.loadAnswer calls.loadWalk calls.fireAnswer calls.fireWalk calls.loadedAnswer calls.readMarking calls.readCount count.onesIn count.ones sets.passing step.next step.urgent step.urgents step.keptAfter formulas.operatorAt formulas.spareAt formulas.leftAt formulas.rightAt formulas.actionAt formulas.formulas formulas.hasLeft formulas.hasRight formulas.hasAction formulas.operandGood formulas.fieldsGood formulas.formulaBad formulas.formulasSized formulas.formulasFault rows.table rows.rowOf rules.fits rules.elem rules.named rules.metBy rules.condition rules.sameAfter rules.nextOf rules.nextNamed rules.childrenOf rules.children rules.childTrail rules.carried rules.ranges rules.inRange nodes.askOf nodes.nodes nodes.sequentAt nodes.nodeAt links.every links.counts links.parentGood links.named links.childrenGood links.linksGood trails.continues trails.trailTo trails.trail trails.onTrail family.same family.agree judged.rootGood judged.faultAt outcomes.askGood outcomes.treeSized outcomes.askInside outcomes.lastFault outcomes.restFault outcomes.inputFault outcomes.netFor outcomes.bad outcomes.firstBad outcomes.scanned outcomes.checkOutcome
 agree = refl

@@ -1,0 +1,3 @@
+-- Laws of the children of a node.
+pub mod Scanning
+pub mod Comparing

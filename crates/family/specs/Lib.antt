@@ -1,0 +1,2 @@
+-- The children of a node.
+pub mod Family

@@ -1,0 +1,2 @@
+-- Laws of the faults of a node.
+pub mod Judging

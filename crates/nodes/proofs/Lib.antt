@@ -1,0 +1,4 @@
+-- Laws of the records, links and trails.
+pub mod Reading
+pub mod Linking
+pub mod Walking
