@@ -1,3 +1,2 @@
 -- The laws that the proofs of `treecheck` cite.
-pub mod Digits
-pub mod Buffer
+pub mod Held

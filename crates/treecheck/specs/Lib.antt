@@ -1,4 +1,2 @@
 -- The definitions that the contracts of `treecheck` cite.
-pub mod Text
-pub mod Line
 pub mod Reading

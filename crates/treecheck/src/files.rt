@@ -2,7 +2,7 @@
 ghost use mathlib.Core.Path.{_≡_};
 ghost use lib.ListN.{length};
 ghost use Rattle.treecheck.specs.Reading.{Holds};
-use crate::line::Input;
+use line::Input;
 
 // What reading a file gives: so many bytes at the start of the buffer, or that it cannot be read or fills the buffer.
 pub enum Got {

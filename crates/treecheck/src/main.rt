@@ -2,7 +2,6 @@
 // FORMULA and TREE in the working folder; with four, they are the paths in that order. With any other number of arguments it writes
 // nothing but its usage, to standard error.
 mod files;
-mod line;
 
 use files::Got;
 use libc::STDERR_FILENO;

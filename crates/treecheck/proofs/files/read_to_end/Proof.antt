@@ -4,7 +4,7 @@ use Prim.Native.Nat.{_≤_, _-_}
 use native.Mathlib.Omega.{arith}
 use lib.ListN.{length}
 use borrow.Author.Needs.{needs}
-use Rattle.treecheck.proofs.Buffer.{held}
+use Rattle.treecheck.proofs.Held.{held}
 use Rattle.treecheck.proofs.files.read_to_end.Statement.{statement}
 use Rattle.treecheck.proofs.files.read_to_end.Tie as tie
 

@@ -1,14 +1,14 @@
 -- The decimal digits of a number, one at a time, and how many there are. Assumes nothing.
-use mathlib.Core.Path.{_≡_, refl, sym, ap, _∙_, subst}
+use mathlib.Core.Path.{_≡_, refl, ap, _∙_, subst}
 use mathlib.Core.Bool.{Bool, true, false, cond}
 use mathlib.Core.List.{List, [], _∷_, _++_}
-use Prim.Native.Nat.{ℕ, zero, suc, _+_, _*_, _/_, _%_, _^_, _≤_, _<_, zero-le, suc-le-suc}
-use native.Mathlib.Nat.{not-suc-le-zero, le-trans, le-of-suc-le-suc, lt-of-lt-of-le, div-lt-self, div-lt-iff-lt-mul, pow-suc, le-refl}
+use Prim.Native.Nat.{ℕ, zero, suc, _+_, _/_, _%_, _^_, _≤_, _<_, zero-le, suc-le-suc}
+use native.Mathlib.Nat.{not-suc-le-zero, div-lt-self, div-lt-iff-lt-mul, pow-suc, le-refl}
 use native.Mathlib.Omega.{arith}
 use lib.ListN.{length, length-append}
 use lib.Dec.{ltb}
-use borrow.Author.Tests.{lt-ltb, le-ltb, ltb-true, ltb-false}
-use Rattle.treecheck.specs.Text.{digits, decimal}
+use borrow.Author.Tests.{lt-ltb, le-ltb, ltb-false}
+use Rattle.line.specs.Text.{digits, decimal}
 
 -- one digit more or one digit in all
 abbrev step : Bool → ℕ → List ℕ → List ℕ

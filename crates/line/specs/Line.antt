@@ -1,4 +1,4 @@
--- The program's line, in document 01's words ("What the desk terminal meets"), and a buffer that holds it. Assumes nothing.
+-- The line that `treecheck` writes, in document 01's words ("What the desk terminal meets"), and a buffer that holds it. Assumes nothing.
 use Prim.Native.Nat.{ℕ, _+_, _≤_}
 use mathlib.Core.Path.{_≡_}
 use mathlib.Core.Bool.{cond}
@@ -7,9 +7,9 @@ use lib.ListN.{length}
 use lib.Seq.{sets}
 use lib.Dec.{eqb}
 use Rattle.checker.specs.Outcomes.{Outcome}
-use Rattle.treecheck.specs.declared.line.Input.{Input}
-use Rattle.treecheck.specs.declared.line.Input.the-variants.{Ask, Net, Formula, Tree}
-use Rattle.treecheck.specs.Text.{bytes, decimal}
+use Rattle.line.specs.declared.Input.{Input}
+use Rattle.line.specs.declared.Input.the-variants.{Ask, Net, Formula, Tree}
+use Rattle.line.specs.Text.{bytes, decimal}
 
 -- "accepted nodes N"
 unfoldable pub acceptedLine : (nodes : ℕ) → List ℕ

@@ -6,12 +6,12 @@ use native.Mathlib.Omega.{arith}
 use borrow.Author.Needs.{needs}
 use borrow.Fn.Kinds.{In}
 use borrow.Fn.PlainCycle.{Measures, is, falls, and}
-use Rattle.treecheck.proofs.Buffer.{number-one, number-more, room-one, room-more}
-use Rattle.treecheck.proofs.line.put_number.Reads as put-number
-use Rattle.treecheck.proofs.line.put_number.Kinds as put-number-kinds
-use Rattle.treecheck.proofs.line.+put_number.Lts-put_number as put-number-lts
-use Rattle.treecheck.proofs.line.+put_number.{statement}
-use Rattle.treecheck.proofs.line.+put_number.Tie.{close}
+use Rattle.line.proofs.Buffer.{number-one, number-more, room-one, room-more}
+use Rattle.line.proofs.put_number.Reads as put-number
+use Rattle.line.proofs.put_number.Kinds as put-number-kinds
+use Rattle.line.proofs.+put_number.Lts-put_number as put-number-lts
+use Rattle.line.proofs.+put_number.{statement}
+use Rattle.line.proofs.+put_number.Tie.{close}
 
 abbrev μ-put-number : Measures 1 put-number-kinds.ps ℕ
 μ-put-number κs a = a .1 .1 .0

@@ -1,11 +1,11 @@
--- `treecheck::line::put_placed` meets its contract. Assumes nothing.
+-- `line::put_placed` meets its contract. Assumes nothing.
 use native.Mathlib.Omega.{arith}
 use borrow.Author.Needs.{needs}
-use Rattle.treecheck.specs.Line.{placedLine}
-use Rattle.treecheck.proofs.Digits.{word-length, byte-length}
-use Rattle.treecheck.proofs.Buffer.{join}
-use Rattle.treecheck.proofs.line.put_placed.Statement.{statement}
-use Rattle.treecheck.proofs.line.put_placed.Tie as tie
+use Rattle.line.specs.Line.{placedLine}
+use Rattle.line.proofs.Digits.{word-length, byte-length}
+use Rattle.line.proofs.Buffer.{join}
+use Rattle.line.proofs.put_placed.Statement.{statement}
+use Rattle.line.proofs.put_placed.Tie as tie
 
 put-word-requires : tie.Need-put-word-requires
 put-word-requires c κs = search needs
@@ -13,7 +13,13 @@ put-word-requires c κs = search needs
 put-number-requires : tie.Need-put-number-requires
 put-number-requires c κs = let w = c .before in
     let s = w .before .before .before in
-    omega (arith, s .pre, w .put-word .ensures .next, byte-length (s .args .number) (s .fits .number .fits))
+    omega (
+      arith,
+      s .pre,
+      w .put-word .ensures .next,
+      byte-length (s .args .number) (s .fits .number .fits),
+      word-length (s .args .place) (s .fits .place .fits),
+    )
 
 slice-aggregate-put-word : tie.Need-slice-aggregate-put-word
 slice-aggregate-put-word c = search needs
@@ -22,7 +28,14 @@ put-word-requires-2 : tie.Need-put-word-requires-2
 put-word-requires-2 c κs = let n = c .before .before in
     let w = n .before .before in
     let s = w .before .before .before in
-    omega (arith, s .pre, w .put-word .ensures .next, n .put-number .ensures .next, byte-length (s .args .number) (s .fits .number .fits))
+    omega (
+      arith,
+      s .pre,
+      w .put-word .ensures .next,
+      n .put-number .ensures .next,
+      byte-length (s .args .number) (s .fits .number .fits),
+      word-length (s .args .place) (s .fits .place .fits),
+    )
 
 put-number-requires-2 : tie.Need-put-number-requires-2
 put-number-requires-2 c κs = let a = c .before in

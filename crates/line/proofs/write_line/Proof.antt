@@ -1,9 +1,9 @@
--- `treecheck::line::write_line` meets its contract. Assumes nothing.
+-- `line::write_line` meets its contract. Assumes nothing.
 use borrow.Author.Needs.{needs}
 use Rattle.checker.specs.Outcomes.{verdict}
-use Rattle.treecheck.specs.Line.{lineOf}
-use Rattle.treecheck.proofs.line.write_line.Statement.{statement}
-use Rattle.treecheck.proofs.line.write_line.Tie as tie
+use Rattle.line.specs.Line.{lineOf}
+use Rattle.line.proofs.write_line.Statement.{statement}
+use Rattle.line.proofs.write_line.Tie as tie
 
 enum-known-v : tie.Need-enum-known-v
 enum-known-v c = search needs

@@ -1,4 +1,4 @@
--- `treecheck::line::put_word` meets its contract. The invariant: the first i bytes of the word stand in the line. Assumes nothing.
+-- `line::put_word` meets its contract. The invariant: the first i bytes of the word stand in the line. Assumes nothing.
 use mathlib.Core.Path.{_≡_, refl}
 use Prim.Native.Nat.{_-_, _≤_}
 use native.Mathlib.Nat.{le-antisymm}
@@ -6,9 +6,9 @@ use native.Mathlib.Omega.{arith}
 use lib.ListN.{length, take}
 use lib.Seq.{sets}
 use borrow.Author.Needs.{needs}
-use Rattle.treecheck.proofs.Buffer.{copied-more, copied-all}
-use Rattle.treecheck.proofs.line.put_word.Statement.{statement}
-use Rattle.treecheck.proofs.line.put_word.Tie as tie
+use Rattle.line.proofs.Buffer.{copied-more, copied-all}
+use Rattle.line.proofs.put_word.Statement.{statement}
+use Rattle.line.proofs.put_word.Tie as tie
 
 abbrev Inv-loop : tie.InvT-loop
 Inv-loop line₀ at word i₀ line i = (i ≤ length word) × (line ≡ sets line₀ at (take i word))

@@ -1,7 +1,7 @@
--- `treecheck::line::check_line` meets its contract. Assumes nothing.
+-- `line::check_line` meets its contract. Assumes nothing.
 use borrow.Author.Needs.{needs}
-use Rattle.treecheck.proofs.line.check_line.Statement.{statement}
-use Rattle.treecheck.proofs.line.check_line.Tie as tie
+use Rattle.line.proofs.check_line.Statement.{statement}
+use Rattle.line.proofs.check_line.Tie as tie
 
 check-requires : tie.Need-check-requires
 check-requires c κs = search needs

@@ -1,18 +1,15 @@
 -- Words that are written into a buffer one after the other. For any buffer and words. Assumes nothing.
-use mathlib.Core.Path.{_≡_, refl, sym, ap, ap₂, _∙_, subst, subst⁻¹}
+use mathlib.Core.Path.{_≡_, refl, sym, ap, ap₂, _∙_, subst⁻¹}
 use mathlib.Core.List.{List, [], _∷_, _++_}
 use Prim.Native.Nat.{ℕ, suc, _+_, _/_, _%_, _≤_, _<_}
-use native.Mathlib.Nat.{add-zero, zero-add, add-suc, suc-add, add-assoc, le-of-lt}
+use native.Mathlib.Nat.{add-zero, zero-add, add-suc, suc-add, add-assoc}
 use native.Mathlib.Numerals.{add-one}
 use native.Mathlib.Omega.{arith}
 use lib.ListN.{length, take, drop, getD, set, length-append}
 use lib.Seq.{sets, sets-eq, length-sets, take-suc, take-at, drop-at, take-length, length-take-le}
-use Rattle.treecheck.specs.Text.{decimal}
-use Rattle.treecheck.specs.declared.files.Got.{Got}
-use Rattle.treecheck.specs.declared.files.Got.the-variants.{Whole}
-use Rattle.treecheck.specs.Line.{Put}
-use Rattle.treecheck.specs.Reading.{Holds}
-use Rattle.treecheck.proofs.Digits.{decimal-one, decimal-more}
+use Rattle.line.specs.Text.{decimal}
+use Rattle.line.specs.Line.{Put}
+use Rattle.line.proofs.Digits.{decimal-one, decimal-more}
 
 sets-append : (vs ws l : List ℕ) (i : ℕ) → sets (sets l i vs) (i + length vs) ws ≡ sets l i (vs ++ ws)
 sets-append [] ws l i = ap (λ (k : ℕ). sets l k ws) (add-zero i)
@@ -77,14 +74,3 @@ room-one at n m h p = let e = ap length (decimal-one n h) in omega arith
 
 pub room-more : (at n m : ℕ) → 10 ≤ n → at + length (decimal n) ≤ m → at + length (decimal (n / 10)) < m
 room-more at n m h p = let e = simp length-append at (ap length (decimal-more n h)) in omega arith
-
--- ---- what a read leaves
-
-pub held : (l : List ℕ) (n : ℕ) → n < length l → Holds l (Whole n)
-held l n h = (h, (le-of-lt h, sym (length-take-le n l (le-of-lt h))))
-
-pub held-inside : (l : List ℕ) {g : Got} {n : ℕ} → Holds l g → g ≡ Whole n → n ≤ length l
-held-inside l h e = subst (Holds l) e h .1 .0
-
-pub held-count : (l : List ℕ) {g : Got} {n : ℕ} → Holds l g → g ≡ Whole n → n ≡ length (take n l)
-held-count l h e = subst (Holds l) e h .1 .1

@@ -1,10 +1,9 @@
--- `treecheck::line::put_unread` meets its contract. Assumes nothing.
-use native.Mathlib.Omega.{arith}
+-- `line::put_unread` meets its contract. Assumes nothing.
 use borrow.Author.Needs.{needs}
-use Rattle.treecheck.specs.Line.{unreadNamed}
-use Rattle.treecheck.proofs.Buffer.{join}
-use Rattle.treecheck.proofs.line.put_unread.Statement.{statement}
-use Rattle.treecheck.proofs.line.put_unread.Tie as tie
+use Rattle.line.specs.Line.{unreadNamed}
+use Rattle.line.proofs.Buffer.{join}
+use Rattle.line.proofs.put_unread.Statement.{statement}
+use Rattle.line.proofs.put_unread.Tie as tie
 
 slice-aggregate-put-word : tie.Need-slice-aggregate-put-word
 slice-aggregate-put-word c = search needs

@@ -1,11 +1,11 @@
--- `treecheck::line::put_accepted` meets its contract. Assumes nothing.
+-- `line::put_accepted` meets its contract. Assumes nothing.
 use native.Mathlib.Omega.{arith}
 use borrow.Author.Needs.{needs}
-use Rattle.treecheck.specs.Line.{acceptedLine}
-use Rattle.treecheck.proofs.Digits.{word-length}
-use Rattle.treecheck.proofs.Buffer.{join}
-use Rattle.treecheck.proofs.line.put_accepted.Statement.{statement}
-use Rattle.treecheck.proofs.line.put_accepted.Tie as tie
+use Rattle.line.specs.Line.{acceptedLine}
+use Rattle.line.proofs.Digits.{word-length}
+use Rattle.line.proofs.Buffer.{join}
+use Rattle.line.proofs.put_accepted.Statement.{statement}
+use Rattle.line.proofs.put_accepted.Tie as tie
 
 slice-aggregate-put-word : tie.Need-slice-aggregate-put-word
 slice-aggregate-put-word c = search needs

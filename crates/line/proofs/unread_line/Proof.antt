@@ -1,8 +1,8 @@
--- `treecheck::line::unread_line` meets its contract. Assumes nothing.
+-- `line::unread_line` meets its contract. Assumes nothing.
 use borrow.Author.Needs.{needs}
-use Rattle.treecheck.specs.Line.{unreadLine}
-use Rattle.treecheck.proofs.line.unread_line.Statement.{statement}
-use Rattle.treecheck.proofs.line.unread_line.Tie as tie
+use Rattle.line.specs.Line.{unreadLine}
+use Rattle.line.proofs.unread_line.Statement.{statement}
+use Rattle.line.proofs.unread_line.Tie as tie
 
 enum-told : tie.Need-enum-told
 enum-told c = search needs

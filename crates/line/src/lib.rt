@@ -1,13 +1,12 @@
-// The program's line, written into a buffer.
-ghost use mathlib.Core.Path.{_≡_};
+// The line that the program `treecheck` writes, put into a buffer.
 ghost use Prim.Native.Nat.{_+_, _≤_};
 ghost use lib.ListN.{length};
 ghost use Rattle.checker.specs.Outcomes as outcomes;
-ghost use Rattle.treecheck.specs.Text as text;
-ghost use Rattle.treecheck.specs.Line as says;
+ghost use Rattle.line.specs.Text as text;
+ghost use Rattle.line.specs.Line as says;
 use checker::Verdict;
 
-// The four files that are read.
+// The four files that the program reads.
 pub enum Input {
     Ask,
     Net,
@@ -56,8 +55,9 @@ fn put_placed(line: &mut [u8; 40], word: &[u8], number: u8, place: usize) -> usi
     requires { ⌜ length (now word) ≤ 8 ⌝ }
     ensures { λ r. ⌜ says.Put (now (line .entry)) (now (line .exit)) 0 (says.placedLine (now (word .entry)) number place) r ⌝ }
 {
+    let number = number as usize;
     let at = put_word(line, 0, word);
-    let at = put_number(line, at, number as usize);
+    let at = put_number(line, at, number);
     let at = put_word(line, at, b" at ");
     let at = put_number(line, at, place);
     put_word(line, at, b"\n")
