@@ -36,9 +36,7 @@ pub const CASES: [Named; 14] = [
         tree_bench(families::plain_chain(21_843))
     }),
     ("tree: operator 2", || tree_bench(families::and_tree(16))),
-    ("tree: 39 children each", || {
-        tree_bench(families::wide_tree(39, 64))
-    }),
+    ("tree: 39 children each", || tree_bench(families::wide())),
     ("tree: rings, operator 5", || {
         tree_bench(families::realistic())
     }),

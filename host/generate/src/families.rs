@@ -1,5 +1,7 @@
 //! Document 01's sample nets and trees, and trees of a given size.
 
+use std::collections::BTreeMap;
+
 use reference::check::{Ask, Node};
 use reference::formula::{ALL, AND, Formula, NOT, SOME, STEP};
 use reference::net::Net;
@@ -290,56 +292,126 @@ pub fn full_round(count: usize) -> TreeCase {
     case(count as u8, &net, &formulas, &nodes)
 }
 
+/// What a tree is to be found for: a formula holds or fails at a marking.
+struct Claim {
+    places: u8,
+    net: Vec<Transition>,
+    formulas: Vec<Formula>,
+    marking: u64,
+    formula: u16,
+    side: u8,
+}
+
+impl Claim {
+    fn tree(self, seed: u64) -> Option<TreeCase> {
+        let model = model(self.places, &self.net, &self.formulas, self.marking);
+        let claim = Sequent {
+            marking: self.marking,
+            formula: self.formula,
+            side: self.side,
+            ..Sequent::default()
+        };
+        tree_of(self.places, &self.net, &model, claim, seed)
+    }
+
+    fn push(&mut self, formula: Formula) -> u16 {
+        self.formulas.push(formula);
+        self.formulas.len() as u16 - 1
+    }
+
+    /// A formula that holds, with a tree of so many nodes: operator 2 over
+    /// formula 0, which is true, with at most one firing of the action in each
+    /// branch.
+    fn holding(&mut self, nodes: usize, action: u16, made: &mut BTreeMap<usize, u16>) -> u16 {
+        if let Some(&formula) = made.get(&nodes) {
+            return formula;
+        }
+        let formula = match nodes {
+            1 => 0,
+            2 => self.push(formula(STEP, 0, 0, action)),
+            _ => {
+                let half = (nodes - 1) / 2;
+                let left = self.holding(half, action, made);
+                let right = self.holding(nodes - 1 - half, action, made);
+                self.push(formula(AND, left, right, 0))
+            }
+        };
+        made.insert(nodes, formula);
+        formula
+    }
+
+    /// The claim, which has a tree of `own` nodes, beside one that holds, so
+    /// that the tree of both has `nodes` nodes.
+    fn filled(mut self, own: usize, nodes: usize, action: u16) -> Claim {
+        let (claim, own) = match self.side {
+            HOLDS => (self.formula, own),
+            _ => (self.push(formula(NOT, self.formula, 0, 0)), own + 1),
+        };
+        let beside = self.holding(nodes - own - 1, action, &mut BTreeMap::new());
+        self.formula = self.push(formula(AND, claim, beside, 0));
+        self.side = HOLDS;
+        self
+    }
+}
+
 /// Operator 2 in `levels` levels: 2 to the power of `levels` nodes.
 pub fn and_tree(levels: u32) -> TreeCase {
-    let net = NET_R;
     let mut formulas = vec![formula(0, 0, 0, 0)];
     for level in 1..levels as u16 {
         formulas.push(formula(AND, level - 1, level - 1, 0));
     }
     formulas.push(formula(NOT, levels as u16 - 1, 0, 0));
-    let model = model(3, &net, &formulas, 3);
-    let claim = Sequent {
+    let claim = Claim {
+        places: 3,
+        net: NET_R.to_vec(),
+        formulas,
         marking: 3,
         formula: levels as u16,
         side: FAILS,
-        ..Sequent::default()
     };
-    tree_of(3, &net, &model, claim, 1).expect("the size is known")
+    claim.tree(1).expect("the size is known")
 }
 
-/// Rule 24 in three levels, each node with `width` children, in a net of
-/// `transitions`, all enabled.
-pub fn wide_tree(width: usize, transitions: usize) -> TreeCase {
-    let mark = (1u64 << 32) - 1;
+fn wide_claim(width: usize, transitions: usize) -> Claim {
     let transition = |t: usize| Transition {
         pre: 1 << (t % 32),
         post: 1 << (t % 32),
         action: if t < width { 1 } else { 2 },
     };
-    let net: Vec<Transition> = (0..transitions).map(transition).collect();
-    let formulas = [
-        formula(0, 0, 0, 0),
-        formula(STEP, 0, 0, 9),
-        formula(STEP, 1, 0, 1),
-        formula(STEP, 2, 0, 1),
-        formula(STEP, 3, 0, 1),
-    ];
-    let model = model(32, &net, &formulas, mark);
-    let claim = Sequent {
-        marking: mark,
+    Claim {
+        places: 32,
+        net: (0..transitions).map(transition).collect(),
+        formulas: vec![
+            formula(0, 0, 0, 0),
+            formula(STEP, 0, 0, 9),
+            formula(STEP, 1, 0, 1),
+            formula(STEP, 2, 0, 1),
+            formula(STEP, 3, 0, 1),
+        ],
+        marking: (1 << 32) - 1,
         formula: 4,
         side: FAILS,
-        ..Sequent::default()
-    };
-    tree_of(32, &net, &model, claim, 1).expect("the size is known")
+    }
 }
 
-/// Rings of the given sizes with a token each, beside a process that goes from
-/// its first place to its second (action 2), where action 3 is enabled. Claim:
-/// on all runs, `left` until action 3 is enabled. The rings can go round for
-/// ever, but the process stays enabled and independent of them.
-pub fn rings(sizes: &[usize], left: u16) -> Option<TreeCase> {
+/// Rule 24 in three levels, each node with `width` children, in a net of
+/// `transitions`, all enabled.
+pub fn wide_tree(width: usize, transitions: usize) -> TreeCase {
+    wide_claim(width, transitions)
+        .tree(1)
+        .expect("the size is known")
+}
+
+/// The same with 39 children each in a net of 64 transitions, 60,880 nodes of
+/// 65,536; the rest is operator 2 beside it.
+pub fn wide() -> TreeCase {
+    wide_claim(39, 64)
+        .filled(60_880, 65_536, 1)
+        .tree(1)
+        .expect("the size is known")
+}
+
+fn rings_claim(sizes: &[usize], left: u16) -> Claim {
     let step = |from: usize, to: usize, action: u16| Transition {
         pre: 1 << from,
         post: 1 << to,
@@ -359,23 +431,34 @@ pub fn rings(sizes: &[usize], left: u16) -> Option<TreeCase> {
         net.extend((0..size).map(|i| step(place(i), place(i + 1), 1)));
         used += size;
     }
-    let formulas = [
-        formula(0, 0, 0, 0),
-        formula(STEP, 0, 0, 3),
-        formula(SOME, 0, 1, 0),
-        formula(ALL, left, 1, 0),
-    ];
-    let places = used as u8;
-    let model = model(places, &net, &formulas, marking);
-    let claim = Sequent {
+    Claim {
+        places: used as u8,
+        net,
+        formulas: vec![
+            formula(0, 0, 0, 0),
+            formula(STEP, 0, 0, 3),
+            formula(SOME, 0, 1, 0),
+            formula(ALL, left, 1, 0),
+        ],
         marking,
         formula: 3,
-        ..Sequent::default()
-    };
-    tree_of(places, &net, &model, claim, 0)
+        side: HOLDS,
+    }
 }
 
-/// A large tree of this kind: 56,303 nodes.
+/// Rings of the given sizes with a token each, beside a process that goes from
+/// its first place to its second (action 2), where action 3 is enabled. Claim:
+/// on all runs, `left` until action 3 is enabled. The rings can go round for
+/// ever, but the process stays enabled and independent of them.
+pub fn rings(sizes: &[usize], left: u16) -> Option<TreeCase> {
+    rings_claim(sizes, left).tree(0)
+}
+
+/// A large tree of this kind, 56,303 nodes of 65,536; the rest is operator 2
+/// beside it.
 pub fn realistic() -> TreeCase {
-    rings(&[6, 1], 0).expect("the size is known")
+    rings_claim(&[6, 1], 0)
+        .filled(56_303, 65_536, 1)
+        .tree(0)
+        .expect("the size is known")
 }

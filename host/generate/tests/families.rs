@@ -20,9 +20,9 @@ fn samples() {
 fn sizes() {
     assert_eq!(line(&families::trail_chain(799)), "accepted nodes 1600");
     assert_eq!(line(&families::plain_chain(21_843)), "accepted nodes 65534");
-    assert_eq!(line(&families::realistic()), "accepted nodes 56303");
+    assert_eq!(line(&families::realistic()), "accepted nodes 65536");
     assert_eq!(line(&families::full_round(1)), "accepted nodes 6");
     assert_eq!(line(&families::full_round(64)), "accepted nodes 258");
     assert_eq!(line(&families::and_tree(16)), "accepted nodes 65536");
-    assert_eq!(line(&families::wide_tree(39, 64)), "accepted nodes 60880");
+    assert_eq!(line(&families::wide()), "accepted nodes 65536");
 }
