@@ -1,6 +1,5 @@
 -- `category::record_bad` meets its contract. Assumes nothing.
 use native.Mathlib.Omega.{arith}
-use borrow.Author.Needs.{needs}
 use Rattle.category.specs.Faults.{recordBad}
 use Rattle.category.proofs.Ascent.{ascending-ascends, ascending-le}
 use Rattle.category.proofs.record_bad.Statement.{statement}

@@ -1,7 +1,6 @@
 -- `treecheck::files::read_to_end` is safe, ends and keeps the count within the buffer. The measure is the room that is left. Assumes nothing.
-use mathlib.Core.Path.{_≡_, refl}
+use mathlib.Core.Path.{_≡_}
 use Prim.Native.Nat.{_≤_, _-_}
-use native.Mathlib.Omega.{arith}
 use lib.ListN.{length}
 use borrow.Author.Needs.{needs}
 use Rattle.treecheck.proofs.Held.{held}
