@@ -1,6 +1,8 @@
-// The samples of the calls of a walk. A line has a name and the answer's number and record; where the walk is read, marking and count follow.
+// The samples of a walk: its calls, walks filled in by hand, which are loaded or not by their fields, and the full count. A line has a name and the answer's number and record; where the walk is read, marking and count follow.
 ghost use mathlib.Core.Path.{_≡_};
+ghost use lib.ListN.{replicate};
 ghost use Rattle.walk.specs.Calls as says;
+ghost use Rattle.walk.specs.History as history;
 use net::Numbers;
 use sample_lines::end;
 use sample_lines::number;
@@ -11,7 +13,7 @@ use walk::Walk;
 // ---- one line
 
 // Starts a line.
-pub fn begin(name: &[u8]) {
+fn begin(name: &[u8]) {
     print(b"walk, ");
     print(name);
 }
@@ -41,14 +43,14 @@ fn numbers(answer: Answer) -> Numbers
 }
 
 // Prints an answer's number and record.
-pub fn told(answer: Answer) {
+fn told(answer: Answer) {
     let said = numbers(answer);
     number(said.number as u64);
     number(said.place);
 }
 
 // Reads the walk, and prints the answer, the marking and the count.
-pub fn told_reading(walk: Walk) {
+fn told_reading(walk: Walk) {
     let reading = walk.read();
     let answer = reading.answer;
     told(answer);
@@ -69,7 +71,7 @@ fn load(name: &[u8], walk: Walk, places: u32, marking: u64, net: &[u8]) -> Walk
 }
 
 // Fires a transition and prints the answer; the walk after it.
-pub fn fire(name: &[u8], walk: Walk, transition: u32) -> Walk
+fn fire(name: &[u8], walk: Walk, transition: u32) -> Walk
     ensures { λ r. ⌜ r ≡ says.fireWalk walk transition ⌝ }
 {
     let outcome = walk.fire(transition);
@@ -81,7 +83,7 @@ pub fn fire(name: &[u8], walk: Walk, transition: u32) -> Walk
 }
 
 // Resets the walk and prints the answer; the walk after it.
-pub fn reset(name: &[u8], walk: Walk) -> Walk
+fn reset(name: &[u8], walk: Walk) -> Walk
     ensures { λ r. ⌜ r ≡ says.resetWalk walk ⌝ }
 {
     let outcome = walk.reset();
@@ -93,7 +95,7 @@ pub fn reset(name: &[u8], walk: Walk) -> Walk
 }
 
 // Reads the walk and prints the answer, the marking and the count.
-pub fn read(name: &[u8], walk: Walk) {
+fn read(name: &[u8], walk: Walk) {
     begin(name);
     told_reading(walk);
     end();
@@ -118,7 +120,7 @@ fn net_r() -> [u8; 72] {
 }
 
 // R loaded with 3 places at marking 3.
-pub fn walk_r() -> Walk {
+fn walk_r() -> Walk {
     let net = net_r();
     let outcome = Walk::new().load(3, 3, &net);
     outcome.walk
@@ -195,11 +197,126 @@ fn again() {
     read(b"R, reset, fire 1, read:", moved);
 }
 
-// All samples of the calls of a walk.
+// ---- walks filled in by hand
+
+// Fires transition 0 of the walk, resets it and reads it, each from the walk as it is.
+fn each_call(name: &[u8], walk: Walk) {
+    let fired = walk.fire(0);
+    let fire_answer = fired.answer;
+    let again = walk.reset();
+    let reset_answer = again.answer;
+    begin(name);
+    print(b" fire");
+    told(fire_answer);
+    print(b" reset");
+    told(reset_answer);
+    print(b" read");
+    told_reading(walk);
+    end();
+}
+
+// Net R with 3 places, started at 3, after one firing of t1.
+fn by_hand() -> Walk {
+    let mut walk = Walk::new();
+    walk.places = 3;
+    walk.transitions = 3;
+    walk.pre[0] = 1;
+    walk.pre[1] = 2;
+    walk.pre[2] = 4;
+    walk.post[0] = 1;
+    walk.post[1] = 4;
+    walk.action[0] = 1;
+    walk.action[1] = 2;
+    walk.action[2] = 3;
+    walk.start = 3;
+    walk.present = 5;
+    walk.count = 1;
+    walk
+}
+
+// Sizes and the count: 40 where they are wrong.
+fn wrong_sizes() {
+    let good = by_hand();
+    each_call(b"by hand:", good);
+    let mut walk = good;
+    walk.places = 0;
+    each_call(b"by hand, no places:", walk);
+    walk.places = 65;
+    each_call(b"by hand, 65 places:", walk);
+    walk.places = 64;
+    each_call(b"by hand, 64 places:", walk);
+    walk.places = 3;
+    walk.transitions = 0;
+    each_call(b"by hand, no transitions:", walk);
+    walk.transitions = 65;
+    each_call(b"by hand, 65 transitions:", walk);
+    walk.transitions = 64;
+    each_call(b"by hand, 64 transitions:", walk);
+    walk.transitions = 3;
+    walk.count = 65535;
+    each_call(b"by hand, count 65535:", walk);
+    walk.count = 65536;
+    each_call(b"by hand, count 65536:", walk);
+}
+
+// Sets and markings beyond the places: 40.
+fn beyond() {
+    let good = by_hand();
+    let mut pre = good;
+    pre.pre[2] = 8;
+    each_call(b"by hand, a pre set beyond:", pre);
+    let mut post = good;
+    post.post[1] = 8;
+    each_call(b"by hand, a post set beyond:", post);
+    let mut start = good;
+    start.start = 8;
+    each_call(b"by hand, start beyond:", start);
+    let mut present = good;
+    present.present = 8;
+    each_call(b"by hand, present beyond:", present);
+    let last = fire(b"by hand, fire 2:", good, 2);
+    read(b"by hand, fire 2, read:", last);
+}
+
+// ---- the full count
+
+// Fires transition 0 some times.
+fn fire_often(walk: Walk, times: u32) -> Walk
+    ensures { λ r. ⌜ r ≡ history.fireAll walk (replicate times 0) ⌝ }
+{
+    let mut now = walk;
+    let mut i: u32 = 0;
+    while i < times {
+        let outcome = now.fire(0);
+        let next = outcome.walk;
+        now = next;
+        i += 1;
+    }
+    now
+}
+
+// 65,535 firings of t0 of R: then 42, but 8 and 41 come before it.
+fn full() {
+    let walk = fire_often(walk_r(), 65535);
+    read(b"R, 65535 times fire 0, read:", walk);
+    let same = fire(b"R, full, fire 0:", walk, 0);
+    read(b"R, full, fire 0, read:", same);
+    fire(b"R, full, fire 1:", same, 1);
+    fire(b"R, full, fire 2:", same, 2);
+    fire(b"R, full, fire 3:", same, 3);
+    let back = reset(b"R, full, reset:", same);
+    let moved = fire(b"R, full, reset, fire 0:", back, 0);
+    read(b"R, full, reset, fire 0, read:", moved);
+}
+
+// All samples of a walk.
 pub fn run() {
     starred();
     refused_sizes();
     refused_sets();
     replaced();
     again();
+    wrong_sizes();
+    beyond();
+    full();
 }

@@ -2,8 +2,6 @@
 fn main() {
     sample_nets::run();
     sample_walks::run();
-    sample_loaded::run();
     sample_labels::run();
-    sample_files::run();
     sample_trees::run();
 }

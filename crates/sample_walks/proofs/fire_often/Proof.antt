@@ -1,4 +1,4 @@
--- `sample_loaded::fire_often` meets its contract. The invariant: the firings that are left lead from the walk where all lead from the first.
+-- `sample_walks::fire_often` meets its contract. The invariant: the firings that are left lead from the walk where all lead from the first.
 -- Assumes nothing.
 use Prim.Native.Nat.{ℕ, suc, _≤_, _<_, _-_, _+_}
 use mathlib.Core.Path.{_≡_, _∙_, sym}
@@ -8,8 +8,8 @@ use borrow.Author.Needs.{needs}
 use Rattle.walk.specs.declared.Walk.{Walk}
 use Rattle.walk.specs.Calls.{fireWalk}
 use Rattle.walk.specs.History as history
-use Rattle.sample_loaded.proofs.fire_often.Statement.{statement}
-use Rattle.sample_loaded.proofs.fire_often.Tie as tie
+use Rattle.sample_walks.proofs.fire_often.Statement.{statement}
+use Rattle.sample_walks.proofs.fire_often.Tie as tie
 
 -- the walk after n firings of transition 0
 often : Walk → ℕ → Walk

@@ -1,10 +1,10 @@
--- `sample_files::fill` meets its contract. The invariant: i is at most n, and the file keeps its length. Assumes nothing.
+-- `sample_labels::fill` meets its contract. The invariant: i is at most n, and the file keeps its length. Assumes nothing.
 use Prim.Native.Nat.{_≤_, _-_}
 use mathlib.Core.Path.{_≡_}
 use lib.ListN.{length}
 use borrow.Author.Needs.{needs}
-use Rattle.sample_files.proofs.fill.Statement.{statement}
-use Rattle.sample_files.proofs.fill.Tie as tie
+use Rattle.sample_labels.proofs.fill.Statement.{statement}
+use Rattle.sample_labels.proofs.fill.Tie as tie
 
 abbrev Inv-loop : tie.InvT-loop
 Inv-loop file₀ n i₀ file i = (i ≤ n) × (length file ≡ length file₀)
