@@ -1,6 +1,4 @@
 -- The laws of sets that the other crates' proofs cite.
-pub mod Tests
 pub mod Membership
 pub mod Relations
 pub mod Counting
-pub mod Least

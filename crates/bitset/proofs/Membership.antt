@@ -11,7 +11,7 @@ use lib.Arith.{digits-mod, digits-div, bin-ind, lt-one}
 use lib.Pow.{pow-pos, shr-shr}
 use lib.Dec.{eqb, ltb, eqb·zero-suc, eqb·suc-zero, eqb·suc-suc}
 use borrow.Author.Tests.{eqb-true, eq-eqb, ne-eqb, eqb-false, lt-ltb, le-ltb, ltb-true, ltb-false}
-use Rattle.bitset.proofs.Tests.{passed}
+use Rattle.tables.proofs.Tests.{passed}
 use Rattle.bitset.specs.Sets.{member, subset, disjoint, difference, union, within, collect}
 
 -- ---- digits

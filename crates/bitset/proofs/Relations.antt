@@ -12,7 +12,7 @@ use lib.Pow.{pow-pos, pow-lt, pow-mono, shl-exact}
 use lib.Dec.{eqb, ltb}
 use borrow.Author.Tests.{eqb-true, eq-eqb, ne-eqb, eqb-false, lt-ltb, le-ltb, ltb-true, ltb-false}
 use Rattle.bitset.specs.Sets.{member, subset, disjoint, difference, union, within, collect, add}
-use Rattle.bitset.proofs.Tests.{passed, and-left, and-right, and-intro, same-test, failed}
+use Rattle.tables.proofs.Tests.{passed, and-left, and-right, and-intro, same-test, failed}
 use Rattle.bitset.proofs.Membership.{member-and, member-union, member-difference, member-empty, member-bit, member-shift, set-ext, some-member}
 
 -- ---- subset

@@ -1,7 +1,7 @@
 // Sets of the numbers 0 to 63, each as one u64: k is in s where bit k of s is 1.
 ghost use mathlib.Core.Path.{_≡_};
 ghost use Prim.Native.Nat.{_≤_, _<_, _^_};
-ghost use lib.Count.{ones, trailingZeros};
+ghost use lib.Count.{ones};
 ghost use Rattle.bitset.specs.Sets as sets;
 
 // Whether each member of a is in b.
@@ -76,11 +76,4 @@ pub fn count(s: u64) -> u32
     ensures { λ r. ⌜ r ≡ ones s ⌝ }
 {
     u64::count_ones(s)
-}
-
-// The lowest member of s, or 64 where s is empty.
-pub fn lowest(s: u64) -> u32
-    ensures { λ r. ⌜ r ≡ trailingZeros 64 s ⌝ }
-{
-    u64::trailing_zeros(s)
 }

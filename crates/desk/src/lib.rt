@@ -82,7 +82,7 @@ pub extern "C" fn desk_fire(
     record: &mut u64,
     after: &mut u64,
 ) -> u32
-    ensures { λ r. let f = firings.firing places marking (now (net .entry)) transition in ⌜ (r ≡ f .refused .number) × (now («record» .exit) ≡ f .refused .place) × (now (after .exit) ≡ f .marking) ⌝ }
+    ensures { λ r. let f = firings.firing places marking (now (net .entry)) transition in ⌜ (r ≡ f .found .number) × (now («record» .exit) ≡ f .found .place) × (now (after .exit) ≡ f .marking) ⌝ }
 {
     let fired = net::firing_numbers(net::fire(places, marking, net, transition));
     *record = fired.place;

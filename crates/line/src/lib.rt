@@ -3,7 +3,7 @@ ghost use Prim.Native.Nat.{_+_, _≤_};
 ghost use lib.ListN.{length};
 ghost use Rattle.checker.specs.Outcomes as outcomes;
 ghost use Rattle.line.specs.Text as text;
-ghost use Rattle.line.specs.Line as says;
+ghost use Rattle.line.specs.Line as lines;
 use checker::Verdict;
 
 // The four files that the program reads.
@@ -17,7 +17,7 @@ pub enum Input {
 // Copies a word into the line from an index on, and answers the index behind it.
 fn put_word(line: &mut [u8; 40], at: usize, word: &[u8]) -> usize
     requires { ⌜ at + length (now word) ≤ 40 ⌝ }
-    ensures { λ r. ⌜ says.Put (now (line .entry)) (now (line .exit)) at (now (word .entry)) r ⌝ }
+    ensures { λ r. ⌜ lines.Put (now (line .entry)) (now (line .exit)) at (now (word .entry)) r ⌝ }
 {
     let mut i = 0;
     while i < word.len() {
@@ -30,7 +30,7 @@ fn put_word(line: &mut [u8; 40], at: usize, word: &[u8]) -> usize
 // Writes a number in decimal into the line from an index on, and answers the index behind it.
 fn put_number(line: &mut [u8; 40], at: usize, n: usize) -> usize
     requires { ⌜ at + length (text.decimal n) ≤ 40 ⌝ }
-    ensures { λ r. ⌜ says.Put (now (line .entry)) (now (line .exit)) at (text.decimal n) r ⌝ }
+    ensures { λ r. ⌜ lines.Put (now (line .entry)) (now (line .exit)) at (text.decimal n) r ⌝ }
 {
     if n < 10 {
         line[at] = 48 + n as u8;
@@ -43,7 +43,7 @@ fn put_number(line: &mut [u8; 40], at: usize, n: usize) -> usize
 
 // The line of an accepted tree.
 fn put_accepted(line: &mut [u8; 40], nodes: usize) -> usize
-    ensures { λ r. ⌜ says.Put (now (line .entry)) (now (line .exit)) 0 (says.acceptedLine nodes) r ⌝ }
+    ensures { λ r. ⌜ lines.Put (now (line .entry)) (now (line .exit)) 0 (lines.acceptedLine nodes) r ⌝ }
 {
     let at = put_word(line, 0, b"accepted nodes ");
     let at = put_number(line, at, nodes);
@@ -53,7 +53,7 @@ fn put_accepted(line: &mut [u8; 40], nodes: usize) -> usize
 // A word, a number and a place.
 fn put_placed(line: &mut [u8; 40], word: &[u8], number: u8, place: usize) -> usize
     requires { ⌜ length (now word) ≤ 8 ⌝ }
-    ensures { λ r. ⌜ says.Put (now (line .entry)) (now (line .exit)) 0 (says.placedLine (now (word .entry)) number place) r ⌝ }
+    ensures { λ r. ⌜ lines.Put (now (line .entry)) (now (line .exit)) 0 (lines.placedLine (now (word .entry)) number place) r ⌝ }
 {
     let number = number as usize;
     let at = put_word(line, 0, word);
@@ -66,7 +66,7 @@ fn put_placed(line: &mut [u8; 40], word: &[u8], number: u8, place: usize) -> usi
 // The line of an unread file.
 fn put_unread(line: &mut [u8; 40], name: &[u8]) -> usize
     requires { ⌜ length (now name) ≤ 8 ⌝ }
-    ensures { λ r. ⌜ says.Put (now (line .entry)) (now (line .exit)) 0 (says.unreadNamed (now (name .entry))) r ⌝ }
+    ensures { λ r. ⌜ lines.Put (now (line .entry)) (now (line .exit)) 0 (lines.unreadNamed (now (name .entry))) r ⌝ }
 {
     let at = put_word(line, 0, b"unread ");
     let at = put_word(line, at, name);
@@ -75,7 +75,7 @@ fn put_unread(line: &mut [u8; 40], name: &[u8]) -> usize
 
 // Writes the line of the check's answer at the start of the buffer, whose other bytes stay, and answers its length.
 pub fn write_line(v: Verdict, line: &mut [u8; 40]) -> usize
-    ensures { λ r. ⌜ says.Put (now (line .entry)) (now (line .exit)) 0 (says.lineOf (outcomes.verdict v)) r ⌝ }
+    ensures { λ r. ⌜ lines.Put (now (line .entry)) (now (line .exit)) 0 (lines.lineOf (outcomes.verdict v)) r ⌝ }
 {
     match v {
         Verdict::Accepted(nodes) => put_accepted(line, nodes),
@@ -86,7 +86,7 @@ pub fn write_line(v: Verdict, line: &mut [u8; 40]) -> usize
 
 // Writes the line of a file that is not read at the start of the buffer, whose other bytes stay, and answers its length.
 pub fn unread_line(file: Input, line: &mut [u8; 40]) -> usize
-    ensures { λ r. ⌜ says.Put (now (line .entry)) (now (line .exit)) 0 (says.unreadLine file) r ⌝ }
+    ensures { λ r. ⌜ lines.Put (now (line .entry)) (now (line .exit)) 0 (lines.unreadLine file) r ⌝ }
 {
     match file {
         Input::Ask => put_unread(line, b"ASK"),
@@ -104,7 +104,7 @@ pub fn check_line(
     tree: &[u8],
     line: &mut [u8; 40],
 ) -> usize
-    ensures { λ r. ⌜ says.Put (now (line .entry)) (now (line .exit)) 0 (says.lineOf (outcomes.checkOutcome (now (ask .entry)) (now (net .entry)) (now (formulas .entry)) (now (tree .entry)))) r ⌝ }
+    ensures { λ r. ⌜ lines.Put (now (line .entry)) (now (line .exit)) 0 (lines.lineOf (outcomes.checkOutcome (now (ask .entry)) (now (net .entry)) (now (formulas .entry)) (now (tree .entry)))) r ⌝ }
 {
     write_line(checker::check(ask, net, formulas, tree), line)
 }

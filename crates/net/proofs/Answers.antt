@@ -16,9 +16,9 @@ use Rattle.net.specs.declared.Refusal.{Refusal}
 use Rattle.net.specs.declared.Refusal.the-variants.{Places, Size, Record, Marking, Absent, Disabled}
 use Rattle.net.specs.declared.Checked.{Checked}
 use Rattle.net.specs.declared.Checked.the-variants.{Good, Refused as Bad}
-use Rattle.net.specs.Step.{preOf, postOf, permits, moved, enabled, fired}
+use Rattle.net.specs.Step.{preOf, postOf, enabledBy, firedBy, enabled, fired}
 use Rattle.net.specs.Table.{preAt, postAt, transitions, netOf, placesGood, tableSized, recordBad}
-use Rattle.net.specs.Answer.{Fault, none, fault, refusal, checked, orElse, tableFault, loadFault, Answer, refuse, grant, stepAnswer, firing}
+use Rattle.net.specs.Answer.{Fault, noFault, fault, refusal, checked, orElse, tableFault, loadFault, Answer, refuse, grant, stepAnswer, firing}
 use Rattle.net.proofs.Loops.{enabled-in}
 
 -- ---- 1 and 7
@@ -35,7 +35,7 @@ refusal-number Disabled = refl
 
 module _ (places m : ℕ) (bytes : List ℕ) where
   rest : Fault
-  rest = orElse (tableFault places bytes) (cond (within places m) none (fault 7 0))
+  rest = orElse (tableFault places bytes) (cond (within places m) noFault (fault 7 0))
 
   pub load-places : not (placesGood places) ≡ true → fault 1 0 ≡ loadFault places m bytes
   unfolding loadFault rest
@@ -51,34 +51,34 @@ module _ (places m : ℕ) (bytes : List ℕ) where
   load-table h r e =
       sym
       (placed h
-      ∙ ap (λ f. orElse f (cond (within places m) none (fault 7 0))) (sym e)
-      ∙ ap (λ b. cond b (cond (within places m) none (fault 7 0)) (refusal r)) (refusal-number r))
+      ∙ ap (λ f. orElse f (cond (within places m) noFault (fault 7 0))) (sym e)
+      ∙ ap (λ b. cond b (cond (within places m) noFault (fault 7 0)) (refusal r)) (refusal-number r))
 
-  loaded : not (placesGood places) ≡ false → checked Good ≡ tableFault places bytes → loadFault places m bytes ≡ cond (within places m) none (fault 7 0)
+  loaded : not (placesGood places) ≡ false → checked Good ≡ tableFault places bytes → loadFault places m bytes ≡ cond (within places m) noFault (fault 7 0)
   unfolding rest checked
-  loaded h e = placed h ∙ ap (λ f. orElse f (cond (within places m) none (fault 7 0))) (sym e)
+  loaded h e = placed h ∙ ap (λ f. orElse f (cond (within places m) noFault (fault 7 0))) (sym e)
 
   pub load-good : not (placesGood places) ≡ false → checked Good ≡ tableFault places bytes → within places m ≡ true
-      → none ≡ loadFault places m bytes
-  load-good h e w = sym (loaded h e ∙ ap (λ b. cond b none (fault 7 0)) w)
+      → noFault ≡ loadFault places m bytes
+  load-good h e w = sym (loaded h e ∙ ap (λ b. cond b noFault (fault 7 0)) w)
 
   pub load-marking : not (placesGood places) ≡ false → checked Good ≡ tableFault places bytes → within places m ≡ false
       → fault 7 0 ≡ loadFault places m bytes
-  load-marking h e w = sym (loaded h e ∙ ap (λ b. cond b none (fault 7 0)) w)
+  load-marking h e w = sym (loaded h e ∙ ap (λ b. cond b noFault (fault 7 0)) w)
 
   -- what a net and a marking that are loaded have passed
-  passes : (p w : Bool) (f : Fault) → none ≡ cond p (orElse f (cond w none (fault 7 0))) (fault 1 0)
+  passes : (p w : Bool) (f : Fault) → noFault ≡ cond p (orElse f (cond w noFault (fault 7 0))) (fault 1 0)
       → (p ≡ true) × (w ≡ true) × (f .number ≡ 0)
   passes true w f e = by (eqb (f .number) 0) refl w e
     where
-      by : (b : Bool) → eqb (f .number) 0 ≡ b → (w : Bool) → none ≡ cond b (cond w none (fault 7 0)) f
+      by : (b : Bool) → eqb (f .number) 0 ≡ b → (w : Bool) → noFault ≡ cond b (cond w noFault (fault 7 0)) f
           → (true ≡ true) × (w ≡ true) × (f .number ≡ 0)
       by true q true e = (refl, refl, eqb-true (f .number) 0 q)
       by true q false e = absurd (let z : _≡_ {A = ℕ} 0 7 = ap (λ x. x .number) e in omega arith)
       by false q w e = absurd (eqb-false (f .number) 0 q (sym (ap (λ x. x .number) e)))
   passes false w f e = absurd (let z : _≡_ {A = ℕ} 0 1 = ap (λ x. x .number) e in omega arith)
 
-  pub load-passed : none ≡ loadFault places m bytes
+  pub load-passed : noFault ≡ loadFault places m bytes
       → (placesGood places ≡ true) × (tableSized bytes ≡ true) × ((t : ℕ) → t < transitions bytes → recordBad places bytes t ≡ false)
       × (within places m ≡ true)
   unfolding loadFault tableFault tableSized transitions
@@ -102,10 +102,10 @@ module _ (places : ℕ) (bytes : List ℕ) (sized : tableSized bytes ≡ true) (
   unfolding netOf
   decoded-post = getD-upTo (postAt bytes) (transitions bytes) 64 t h count-most
 
-  decoded-enabled : (m : ℕ) → enabled (netOf places bytes) m t ≡ permits (preAt bytes t) (postAt bytes t) m
-  decoded-enabled m = enabled-in (netOf places bytes) m t below ∙ ap₂ (λ (a b : ℕ). permits a b m) decoded-pre decoded-post
+  decoded-enabled : (m : ℕ) → enabled (netOf places bytes) m t ≡ enabledBy (preAt bytes t) (postAt bytes t) m
+  decoded-enabled m = enabled-in (netOf places bytes) m t below ∙ ap₂ (λ (a b : ℕ). enabledBy a b m) decoded-pre decoded-post
     where
-      below : t < netOf places bytes .count
+      below : t < netOf places bytes .transitions
       below = unfold netOf in h
 
 -- ---- the single firing
@@ -133,7 +133,7 @@ module _ (places m : ℕ) (bytes : List ℕ) (t : ℕ) where
 
   step-in : checked Good ≡ loadFault places m bytes → t < transitions bytes
       → firing places m bytes t
-      ≡ cond (permits (preAt bytes t) (postAt bytes t) m) (grant (moved (preAt bytes t) (postAt bytes t) m)) (refuse (fault 41 0))
+      ≡ cond (enabledBy (preAt bytes t) (postAt bytes t) m) (grant (firedBy (preAt bytes t) (postAt bytes t) m)) (refuse (fault 41 0))
   unfolding stepAnswer checked fired netOf
   step-in e h =
       stepped e
@@ -142,21 +142,21 @@ module _ (places m : ℕ) (bytes : List ℕ) (t : ℕ) where
       (lt-ltb t (transitions bytes) h)
       ∙ ap₂ (λ b (x : ℕ). cond b (grant x) (refuse (fault 41 0)))
       (decoded-enabled places bytes whole t h m)
-      (ap₂ (λ (a b : ℕ). moved a b m) (decoded-pre places bytes whole t h) (decoded-post places bytes whole t h))
+      (ap₂ (λ (a b : ℕ). firedBy a b m) (decoded-pre places bytes whole t h) (decoded-post places bytes whole t h))
     where
       whole : tableSized bytes ≡ true
       whole = load-passed places m bytes e .1
 
   module _ (pre post : ℕ) (p : pre ≡ preAt bytes t) (q : post ≡ postAt bytes t) where
-    same : permits pre post m ≡ permits (preAt bytes t) (postAt bytes t) m
-    same = ap₂ (λ (a b : ℕ). permits a b m) p q
+    same : enabledBy pre post m ≡ enabledBy (preAt bytes t) (postAt bytes t) m
+    same = ap₂ (λ (a b : ℕ). enabledBy a b m) p q
 
-    pub fire-enabled : checked Good ≡ loadFault places m bytes → t < transitions bytes → permits pre post m ≡ true
-        → grant (moved pre post m) ≡ firing places m bytes t
+    pub fire-enabled : checked Good ≡ loadFault places m bytes → t < transitions bytes → enabledBy pre post m ≡ true
+        → grant (firedBy pre post m) ≡ firing places m bytes t
     fire-enabled e h b =
-        ap₂ (λ (x y : ℕ). grant (moved x y m)) p q
-        ∙ sym (step-in e h ∙ ap (λ o. cond o (grant (moved (preAt bytes t) (postAt bytes t) m)) (refuse (fault 41 0))) (sym same ∙ b))
+        ap₂ (λ (x y : ℕ). grant (firedBy x y m)) p q
+        ∙ sym (step-in e h ∙ ap (λ o. cond o (grant (firedBy (preAt bytes t) (postAt bytes t) m)) (refuse (fault 41 0))) (sym same ∙ b))
 
-    pub fire-disabled : checked Good ≡ loadFault places m bytes → t < transitions bytes → permits pre post m ≡ false
+    pub fire-disabled : checked Good ≡ loadFault places m bytes → t < transitions bytes → enabledBy pre post m ≡ false
         → refuse (fault 41 0) ≡ firing places m bytes t
-    fire-disabled e h b = sym (step-in e h ∙ ap (λ o. cond o (grant (moved (preAt bytes t) (postAt bytes t) m)) (refuse (fault 41 0))) (sym same ∙ b))
+    fire-disabled e h b = sym (step-in e h ∙ ap (λ o. cond o (grant (firedBy (preAt bytes t) (postAt bytes t) m)) (refuse (fault 41 0))) (sym same ∙ b))

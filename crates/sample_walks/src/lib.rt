@@ -1,7 +1,7 @@
 // The samples of a walk: its calls, walks filled in by hand, which are loaded or not by their fields, and the full count. A line has a name and the answer's number and record; where the walk is read, marking and count follow.
 ghost use mathlib.Core.Path.{_≡_};
 ghost use lib.ListN.{replicate};
-ghost use Rattle.walk.specs.Calls as says;
+ghost use Rattle.walk.specs.Calls as calls;
 ghost use Rattle.walk.specs.History as history;
 use net::Numbers;
 use sample_lines::end;
@@ -20,7 +20,7 @@ fn begin(name: &[u8]) {
 
 // An answer in document 01's numbers.
 fn numbers(answer: Answer) -> Numbers
-    ensures { λ r. ⌜ (r .number ≡ says.answerOf answer .number) × (r .place ≡ says.answerOf answer .place) ⌝ }
+    ensures { λ r. ⌜ (r .number ≡ calls.answerOf answer .number) × (r .place ≡ calls.answerOf answer .place) ⌝ }
 {
     match answer {
         Answer::Granted => Numbers {
@@ -60,7 +60,7 @@ fn told_reading(walk: Walk) {
 
 // Loads a net and prints the answer; the walk after it.
 fn load(name: &[u8], walk: Walk, places: u32, marking: u64, net: &[u8]) -> Walk
-    ensures { λ r. ⌜ r ≡ says.loadWalk walk places marking (now (net .entry)) ⌝ }
+    ensures { λ r. ⌜ r ≡ calls.loadWalk walk places marking (now (net .entry)) ⌝ }
 {
     let outcome = walk.load(places, marking, net);
     let answer = outcome.answer;
@@ -72,7 +72,7 @@ fn load(name: &[u8], walk: Walk, places: u32, marking: u64, net: &[u8]) -> Walk
 
 // Fires a transition and prints the answer; the walk after it.
 fn fire(name: &[u8], walk: Walk, transition: u32) -> Walk
-    ensures { λ r. ⌜ r ≡ says.fireWalk walk transition ⌝ }
+    ensures { λ r. ⌜ r ≡ calls.fireWalk walk transition ⌝ }
 {
     let outcome = walk.fire(transition);
     let answer = outcome.answer;
@@ -84,7 +84,7 @@ fn fire(name: &[u8], walk: Walk, transition: u32) -> Walk
 
 // Resets the walk and prints the answer; the walk after it.
 fn reset(name: &[u8], walk: Walk) -> Walk
-    ensures { λ r. ⌜ r ≡ says.resetWalk walk ⌝ }
+    ensures { λ r. ⌜ r ≡ calls.resetWalk walk ⌝ }
 {
     let outcome = walk.reset();
     let answer = outcome.answer;

@@ -20,7 +20,7 @@ pub record Sample : Type 0 where
 
 -- a firing's number, record and marking
 unfoldable pub fired : Answer → List ℕ
-fired a = a .refused .number ∷ a .refused .place ∷ a .marking ∷ []
+fired a = a .found .number ∷ a .found .place ∷ a .marking ∷ []
 
 -- the number and the record that a walk answers
 unfoldable pub told : Fault → List ℕ

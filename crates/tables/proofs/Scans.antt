@@ -11,7 +11,7 @@ use Rattle.tables.specs.declared.RecordCount.{RecordCount}
 use Rattle.tables.specs.declared.RecordCount.the-variants.{Whole, Refused}
 use Rattle.tables.specs.Lists.{first}
 use Rattle.tables.specs.Sizes.{sized, recordsOf}
-use Rattle.tables.specs.Faults.{Fault, none, fault, scanFault}
+use Rattle.tables.specs.Faults.{Fault, noFault, fault, scanFault}
 use Rattle.tables.proofs.Counts.{whole-sized, whole-count, refused-sized}
 use Rattle.tables.proofs.Entries.{before-first}
 
@@ -20,33 +20,33 @@ module _ (sn rn size least most : ℕ) (bad : ℕ → Bool) (len : ℕ) where
   unfolding scanFault
   scan-size e =
       sym
-      (ap (λ b. cond b (cond (ltb (first bad (len / size)) (len / size)) (fault rn (first bad (len / size))) none) (fault sn 0))
+      (ap (λ b. cond b (cond (ltb (first bad (len / size)) (len / size)) (fault rn (first bad (len / size))) noFault) (fault sn 0))
       (refused-sized size least most len e))
 
   sized-scan : (n : ℕ) → recordsOf size least most len ≡ Whole n
-      → scanFault sn rn size least most bad len ≡ cond (ltb (first bad n) n) (fault rn (first bad n)) none
+      → scanFault sn rn size least most bad len ≡ cond (ltb (first bad n) n) (fault rn (first bad n)) noFault
   unfolding scanFault
   sized-scan n e =
-      ap (λ b. cond b (cond (ltb (first bad (len / size)) (len / size)) (fault rn (first bad (len / size))) none) (fault sn 0))
+      ap (λ b. cond b (cond (ltb (first bad (len / size)) (len / size)) (fault rn (first bad (len / size))) noFault) (fault sn 0))
       (whole-sized size least most len n e)
-      ∙ ap (λ (k : ℕ). cond (ltb (first bad k) k) (fault rn (first bad k)) none) (sym (whole-count size least most len n e))
+      ∙ ap (λ (k : ℕ). cond (ltb (first bad k) k) (fault rn (first bad k)) noFault) (sym (whole-count size least most len n e))
 
   pub scan-record : (n b : ℕ) → recordsOf size least most len ≡ Whole n → b ≡ first bad n → b < n
       → fault rn b ≡ scanFault sn rn size least most bad len
   scan-record n b e p h =
       ap (fault rn) p
-      ∙ sym (sized-scan n e ∙ ap (λ t. cond t (fault rn (first bad n)) none) (ap (λ (k : ℕ). ltb k n) (sym p) ∙ lt-ltb b n h))
+      ∙ sym (sized-scan n e ∙ ap (λ t. cond t (fault rn (first bad n)) noFault) (ap (λ (k : ℕ). ltb k n) (sym p) ∙ lt-ltb b n h))
 
   pub scan-good : (n b : ℕ) → recordsOf size least most len ≡ Whole n → b ≡ first bad n → n ≤ b
-      → none ≡ scanFault sn rn size least most bad len
+      → noFault ≡ scanFault sn rn size least most bad len
   scan-good n b e p h =
-      sym (sized-scan n e ∙ ap (λ t. cond t (fault rn (first bad n)) none) (ap (λ (k : ℕ). ltb k n) (sym p) ∙ le-ltb b n h))
+      sym (sized-scan n e ∙ ap (λ t. cond t (fault rn (first bad n)) noFault) (ap (λ (k : ℕ). ltb k n) (sym p) ∙ le-ltb b n h))
 
   pub records-inside : (n : ℕ) → recordsOf size least most len ≡ Whole n → n * size ≤ len
   records-inside n e = le-trans (le-of-eq (ap (λ (k : ℕ). k * size) (whole-count size least most len n e))) (div-mul-le-self len size)
 
   -- a table with no fault has its size, and no record of it is bad
-  passes : (s f : Bool) (k : ℕ) → (_≡_ {A = ℕ} sn 0 → ⊥) → (_≡_ {A = ℕ} rn 0 → ⊥) → cond s (cond f (fault rn k) none) (fault sn 0) .number ≡ 0
+  passes : (s f : Bool) (k : ℕ) → (_≡_ {A = ℕ} sn 0 → ⊥) → (_≡_ {A = ℕ} rn 0 → ⊥) → cond s (cond f (fault rn k) noFault) (fault sn 0) .number ≡ 0
       → (s ≡ true) × (f ≡ false)
   passes true false k p q e = (refl, refl)
   passes true true k p q e = absurd (q e)

@@ -10,8 +10,8 @@ pub record Fault : Type 0 where
   pub number : ℕ
   pub place : ℕ
 
-abbrev pub none : Fault
-none = record { number = 0; place = 0 }
+abbrev pub noFault : Fault
+noFault = record { number = 0; place = 0 }
 
 abbrev pub fault : ℕ → ℕ → Fault
 fault n r = record { number = n; place = r }
@@ -25,5 +25,5 @@ orElse a b = cond (eqb (a .number) 0) b a
 unfoldable pub scanFault : (sizeNumber recordNumber size least most : ℕ) (bad : ℕ → Bool) (len : ℕ) → Fault
 scanFault sn rn size least most bad len =
     cond (sized size least most len)
-    (cond (ltb (first bad (len / size)) (len / size)) (fault rn (first bad (len / size))) none)
+    (cond (ltb (first bad (len / size)) (len / size)) (fault rn (first bad (len / size))) noFault)
     (fault sn 0)

@@ -10,23 +10,23 @@ use lib.ListN.{getD, length}
 use lib.Dec.{eqb, ltb, leb}
 use borrow.Author.Tests.{lt-ltb, ltb-true, ltb-false, le-leb, not-false}
 use Rattle.bitset.specs.Sets.{member, within}
-use Rattle.bitset.proofs.Tests.{and-left, and-right, and-intro}
+use Rattle.tables.proofs.Tests.{and-left, and-right, and-intro}
 use Rattle.bitset.proofs.Relations.{within-member, member-within}
 use Rattle.tables.specs.Sizes.{sized}
 use Rattle.tables.proofs.Entries.{before-first}
-use Rattle.net.specs.Step.{preOf, postOf, permits, moved, enabled, fired}
+use Rattle.net.specs.Step.{preOf, postOf, enabledBy, firedBy, enabled, fired}
 use Rattle.net.specs.Table.{preAt, postAt, spareAt, transitions, netOf, placesGood, tableSized, recordBad}
 use Rattle.tables.specs.Lists.{first}
 use Rattle.tables.specs.Faults.{scanFault}
-use Rattle.net.specs.Answer.{none, fault, orElse, tableFault, loadFault}
+use Rattle.net.specs.Answer.{noFault, fault, orElse, tableFault, loadFault}
 use Rattle.net.proofs.Answers.{load-passed, decoded-pre, decoded-post}
-use Rattle.net.proofs.Independence.{member-moved}
+use Rattle.net.proofs.Independence.{member-firedBy}
 use Rattle.walk.specs.declared.Walk.{Walk}
 use Rattle.walk.specs.State.{netIn, startedAt, movedTo, empty, setsWithin, transitionsGood, loaded}
 use Rattle.walk.specs.Calls.{granted, loadAnswer, loadWalk, fireAnswer, fireWalk, loadedAnswer, resetWalk}
 use Rattle.walk.specs.History.{Call, called, run}
 use Rattle.walk.specs.History.Call.{load, fire, reset}
-use Rattle.walk.proofs.Below.{all-in, all-by}
+use Rattle.tables.proofs.Below.{every-at, every-is}
 use Rattle.walk.proofs.Walks.{Sound, loaded-sound, sound-loaded, answers}
 
 pub new-unloaded : loaded empty ≡ false
@@ -36,14 +36,14 @@ new-unloaded = refl
 -- ---- what a granted call has passed
 
 -- a load is granted where it meets none of 1, 2, 3 and 7
-load-none : (places m : ℕ) (bytes : List ℕ) → granted (loadAnswer places m bytes) ≡ true → none ≡ loadFault places m bytes
+load-none : (places m : ℕ) (bytes : List ℕ) → granted (loadAnswer places m bytes) ≡ true → noFault ≡ loadFault places m bytes
 unfolding loadAnswer loadFault tableFault scanFault granted
 load-none places m bytes =
     let n = length bytes / 24 in
     by (placesGood places) (sized 24 1 64 (length bytes)) (ltb (first (recordBad places bytes) n) n) (within places m) (first (recordBad places bytes) n)
   where
-    by : (p s f w : Bool) (k : ℕ) → granted (cond p (orElse (cond s (cond f (fault 3 k) none) (fault 2 0)) (cond w none (fault 7 0))) (fault 1 0)) ≡ true
-        → none ≡ cond p (orElse (cond s (cond f (fault 3 k) none) (fault 2 0)) (cond w none (fault 7 0))) (fault 1 0)
+    by : (p s f w : Bool) (k : ℕ) → granted (cond p (orElse (cond s (cond f (fault 3 k) noFault) (fault 2 0)) (cond w noFault (fault 7 0))) (fault 1 0)) ≡ true
+        → noFault ≡ cond p (orElse (cond s (cond f (fault 3 k) noFault) (fault 2 0)) (cond w noFault (fault 7 0))) (fault 1 0)
     by true true false true k e = refl
     by true true false false k e = absurd (false≢true e)
     by true true true w k e = absurd (false≢true e)
@@ -58,7 +58,7 @@ fire-needs w t e =
     let r = by (loaded w) (ltb t (w .transitions)) (enabled (netIn w) (w .present) t) (ltb (w .count) 65535) e in
     (r .0, ltb-true t (w .transitions) (r .1), r .2, ltb-true (w .count) 65535 (r .3))
   where
-    by : (l n e f : Bool) → granted (cond l (cond n (cond e (cond f none (fault 42 0)) (fault 41 0)) (fault 8 0)) (fault 40 0)) ≡ true
+    by : (l n e f : Bool) → granted (cond l (cond n (cond e (cond f noFault (fault 42 0)) (fault 41 0)) (fault 8 0)) (fault 40 0)) ≡ true
         → (l ≡ true) × (n ≡ true) × (e ≡ true) × (f ≡ true)
     by true true true true e = (refl, refl, refl, refl)
     by true true true false e = absurd (false≢true e)
@@ -71,11 +71,11 @@ unfolding granted
 fire-grants w t h p l = ap granted (answers w t true true true true h (named p) p (lt-ltb (w .count) 65535 l))
   where
     named : enabled (netIn w) (w .present) t ≡ true → ltb t (w .transitions) ≡ true
-    named q = unfold enabled netIn in and-left (ltb t (w .transitions)) (permits (getD (w .pre) t 0) (getD (w .post) t 0) (w .present)) q
+    named q = unfold enabled netIn in and-left (ltb t (w .transitions)) (enabledBy (getD (w .pre) t 0) (getD (w .post) t 0) (w .present)) q
 
 -- ---- load
 
-module _ (places m : ℕ) (bytes : List ℕ) (e : none ≡ loadFault places m bytes) where
+module _ (places m : ℕ) (bytes : List ℕ) (e : noFault ≡ loadFault places m bytes) where
   count-good : transitionsGood (transitions bytes) ≡ true
   unfolding transitionsGood transitions tableSized sized
   count-good =
@@ -108,7 +108,7 @@ module _ (places m : ℕ) (bytes : List ℕ) (e : none ≡ loadFault places m by
       record {
         places = p .0;
         transitions = count-good;
-        sets = all-by (setsWithin places (netOf places bytes .pre) (netOf places bytes .post)) (transitions bytes) entry-within;
+        sets = every-is (setsWithin places (netOf places bytes .pre) (netOf places bytes .post)) (transitions bytes) entry-within;
         start = p .3;
         present = p .3;
         count = refl;
@@ -123,10 +123,10 @@ load-loaded w places m bytes h =
 -- ---- fire and reset
 
 -- a firing leads from a marking within the places to another, where the post set is within them
-moved-within : (n pre post m : ℕ) → within n post ≡ true → within n m ≡ true → within n (moved pre post m) ≡ true
+moved-within : (n pre post m : ℕ) → within n post ≡ true → within n m ≡ true → within n (firedBy pre post m) ≡ true
 moved-within n pre post m p q =
-    member-within n (moved pre post m)
-    (λ k h. by k (either (member m k && not (member pre k)) (member post k) (sym (member-moved pre post m k) ∙ h)))
+    member-within n (firedBy pre post m)
+    (λ k h. by k (either (member m k && not (member pre k)) (member post k) (sym (member-firedBy pre post m k) ∙ h)))
   where
     either : (a b : Bool) → (a || b) ≡ true → (a ≡ true) ⊎ (b ≡ true)
     either true b e = inl refl
@@ -147,7 +147,7 @@ unfolding fired netIn setsWithin
 fired-within w t s l =
     moved-within (w .places) (getD (w .pre) t 0) (getD (w .post) t 0) (w .present)
     (and-right (within (w .places) (getD (w .pre) t 0)) (within (w .places) (getD (w .post) t 0))
-    (all-in (setsWithin (w .places) (w .pre) (w .post)) (w .transitions) t (s .sets) l))
+    (every-at (setsWithin (w .places) (w .pre) (w .post)) (w .transitions) t (s .sets) l))
     (s .present)
 
 pub fire-loaded : (w : Walk) (t : ℕ) → granted (fireAnswer w t) ≡ true → loaded (fireWalk w t) ≡ true
@@ -164,7 +164,7 @@ reset-needs : (w : Walk) → granted (loadedAnswer w) ≡ true → loaded w ≡ 
 unfolding loadedAnswer granted
 reset-needs w = by (loaded w)
   where
-    by : (l : Bool) → granted (cond l none (fault 40 0)) ≡ true → l ≡ true
+    by : (l : Bool) → granted (cond l noFault (fault 40 0)) ≡ true → l ≡ true
     by true e = refl
     by false e = absurd (false≢true e)
 

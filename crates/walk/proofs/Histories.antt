@@ -8,7 +8,7 @@ use Prim.Native.Nat.{ℕ, suc, _+_, _≤_, _<_}
 use native.Mathlib.Nat.{add-zero, zero-add}
 use native.Mathlib.Omega.{arith}
 use lib.ListN.{length, length-append}
-use Rattle.bitset.proofs.Tests.{and-left, and-right, and-intro}
+use Rattle.tables.proofs.Tests.{and-left, and-right, and-intro}
 use Rattle.net.specs.declared.Net.{Net}
 use Rattle.net.specs.Step.{enabled, fired}
 use Rattle.net.specs.Table.{netOf}

@@ -1,5 +1,4 @@
 -- The laws of the walk that the other crates' proofs cite.
-pub mod Below
 pub mod Walks
 pub mod Conditions
 pub mod Histories

@@ -7,18 +7,19 @@ use lib.ListN.{getD}
 use lib.Dec.{ltb, leb}
 use borrow.Author.Tests.{lt-ltb, le-ltb, not-true, not-false, leb-true}
 use Rattle.bitset.specs.Sets.{within}
-use Rattle.bitset.proofs.Tests.{and-left, and-right, and-intro}
+use Rattle.tables.proofs.Tests.{and-left, and-right, and-intro}
 use Rattle.net.specs.declared.Net.{Net}
 use Rattle.net.specs.declared.Refusal.{Refusal}
 use Rattle.net.specs.declared.Refusal.the-variants.{Places, Size, Record, Marking, Absent, Disabled}
 use Rattle.net.specs.declared.Checked.the-variants.{Good, Refused as Bad}
-use Rattle.net.specs.Step.{permits, moved, enabled, fired}
+use Rattle.net.specs.Step.{enabledBy, firedBy, enabled, fired}
 use Rattle.net.specs.Table.{placesGood, netOf}
-use Rattle.net.specs.Answer.{Fault, none, fault, refusal, checked, loadFault}
+use Rattle.net.specs.Answer.{Fault, noFault, fault, refusal, checked, loadFault}
 use Rattle.net.proofs.Loops.{enabled-in}
 use Rattle.walk.specs.declared.Walk.{Walk}
 use Rattle.walk.specs.declared.Answer.the-variants.{Granted, Unloaded, Refused, Full}
-use Rattle.walk.specs.State.{netIn, startedAt, movedTo, allBelow, setsWithin, transitionsGood, loaded}
+use Rattle.tables.specs.Below.{everyBelow}
+use Rattle.walk.specs.State.{netIn, startedAt, movedTo, setsWithin, transitionsGood, loaded}
 use Rattle.walk.specs.Calls.{answerOf, granted, loadAnswer, loadWalk, fireAnswer, fireWalk, loadedAnswer, resetWalk, readMarking, readCount}
 
 -- ---- tests: what a negated test in the code says of the definition that it computes
@@ -54,7 +55,7 @@ module _ (w : Walk) (places m : ℕ) (bytes : List ℕ) where
   pub load-granted : (N : Net) → checked Good ≡ loadFault places m bytes → N ≡ netOf places bytes
       → (answerOf Granted ≡ loadAnswer places m bytes) × (startedAt N m ≡ loadWalk w places m bytes)
   unfolding answerOf checked loadAnswer granted
-  load-granted N e d = (e, ap (λ n. startedAt n m) d ∙ sym (loads none e))
+  load-granted N e d = (e, ap (λ n. startedAt n m) d ∙ sym (loads noFault e))
 
 -- ---- loaded
 
@@ -62,7 +63,7 @@ module _ (w : Walk) (places m : ℕ) (bytes : List ℕ) where
 pub record Sound (w : Walk) : Type 0 where
   pub places : placesGood (w .places) ≡ true
   pub transitions : transitionsGood (w .transitions) ≡ true
-  pub sets : allBelow (setsWithin (w .places) (w .pre) (w .post)) (w .transitions) ≡ true
+  pub sets : everyBelow (setsWithin (w .places) (w .pre) (w .post)) (w .transitions) ≡ true
   pub start : within (w .places) (w .start) ≡ true
   pub present : within (w .places) (w .present) ≡ true
   pub count : leb (w .count) 65535 ≡ true
@@ -75,7 +76,7 @@ module _ (w : Walk) where
   sized = placesGood (w .places) && transitionsGood (w .transitions)
 
   sets : Bool
-  sets = allBelow (setsWithin (w .places) (w .pre) (w .post)) (w .transitions)
+  sets = everyBelow (setsWithin (w .places) (w .pre) (w .post)) (w .transitions)
 
   rest : Bool
   rest = sets && within (w .places) (w .start) && within (w .places) (w .present) && leb (w .count) 65535
@@ -105,7 +106,7 @@ module _ (w : Walk) where
   loaded-not h = sym (ap (λ b. b && rest) (not-true sized h))
 
   pub loaded-by : (s a p : Bool) → not (placesGood (w .places) && transitionsGood (w .transitions)) ≡ false
-      → s ≡ allBelow (setsWithin (w .places) (w .pre) (w .post)) (w .transitions) → a ≡ within (w .places) (w .start) → p ≡ within (w .places) (w .present)
+      → s ≡ everyBelow (setsWithin (w .places) (w .pre) (w .post)) (w .transitions) → a ≡ within (w .places) (w .start) → p ≡ within (w .places) (w .present)
       → (s && a && p && leb (w .count) 65535) ≡ loaded w
   unfolding loaded sized sets rest
   loaded-by s a p h e f g =
@@ -130,18 +131,18 @@ module _ (w : Walk) where
   pub reset-refused : loaded w ≡ false → (answerOf Unloaded ≡ loadedAnswer w) × (w ≡ resetWalk w)
   unfolding answerOf loadedAnswer resetWalk granted
   reset-refused h =
-      (sym (ap (λ b. cond b none (fault 40 0)) h), sym (ap (λ b. cond (granted (cond b none (fault 40 0))) (movedTo w (w .start) 0) w) h))
+      (sym (ap (λ b. cond b noFault (fault 40 0)) h), sym (ap (λ b. cond (granted (cond b noFault (fault 40 0))) (movedTo w (w .start) 0) w) h))
 
   pub reset-granted : loaded w ≡ true → (answerOf Granted ≡ loadedAnswer w) × (movedTo w (w .start) 0 ≡ resetWalk w)
   unfolding answerOf loadedAnswer resetWalk granted
   reset-granted h =
-      (sym (ap (λ b. cond b none (fault 40 0)) h), sym (ap (λ b. cond (granted (cond b none (fault 40 0))) (movedTo w (w .start) 0) w) h))
+      (sym (ap (λ b. cond b noFault (fault 40 0)) h), sym (ap (λ b. cond (granted (cond b noFault (fault 40 0))) (movedTo w (w .start) 0) w) h))
 
   reads : (b : Bool) (n : ℕ) → loaded w ≡ b → cond (granted (loadedAnswer w)) n 0 ≡ cond b n 0
   unfolding loadedAnswer granted
-  reads b n h = ap (λ x. cond (granted (cond x none (fault 40 0))) n 0) h ∙ same b
+  reads b n h = ap (λ x. cond (granted (cond x noFault (fault 40 0))) n 0) h ∙ same b
     where
-      same : (x : Bool) → cond (granted (cond x none (fault 40 0))) n 0 ≡ cond x n 0
+      same : (x : Bool) → cond (granted (cond x noFault (fault 40 0))) n 0 ≡ cond x n 0
       same true = refl
       same false = refl
 
@@ -158,11 +159,11 @@ module _ (w : Walk) where
 module _ (w : Walk) (t : ℕ) where
   -- the answer by its four tests
   pub answers : (l n e f : Bool) → loaded w ≡ l → ltb t (w .transitions) ≡ n → enabled (netIn w) (w .present) t ≡ e → ltb (w .count) 65535 ≡ f
-      → fireAnswer w t ≡ cond l (cond n (cond e (cond f none (fault 42 0)) (fault 41 0)) (fault 8 0)) (fault 40 0)
+      → fireAnswer w t ≡ cond l (cond n (cond e (cond f noFault (fault 42 0)) (fault 41 0)) (fault 8 0)) (fault 40 0)
   unfolding fireAnswer
   answers l n e f p q r s =
-      ap₂ (λ x y. cond x (cond y (cond (enabled (netIn w) (w .present) t) (cond (ltb (w .count) 65535) none (fault 42 0)) (fault 41 0)) (fault 8 0)) (fault 40 0)) p q
-      ∙ ap₂ (λ x y. cond l (cond n (cond x (cond y none (fault 42 0)) (fault 41 0)) (fault 8 0)) (fault 40 0)) r s
+      ap₂ (λ x y. cond x (cond y (cond (enabled (netIn w) (w .present) t) (cond (ltb (w .count) 65535) noFault (fault 42 0)) (fault 41 0)) (fault 8 0)) (fault 40 0)) p q
+      ∙ ap₂ (λ x y. cond l (cond n (cond x (cond y noFault (fault 42 0)) (fault 41 0)) (fault 8 0)) (fault 40 0)) r s
 
   fires : (f : Fault) → fireAnswer w t ≡ f → fireWalk w t ≡ cond (granted f) (movedTo w (fired (netIn w) (w .present) t) (w .count + 1)) w
   unfolding fireWalk
@@ -177,25 +178,25 @@ module _ (w : Walk) (t : ℕ) where
   fire-absent h l = let e = answers true false _ _ h (le-ltb t (w .transitions) l) refl refl in (sym e, sym (fires (fault 8 0) e))
 
   module _ (h : loaded w ≡ true) (l : t < w .transitions) where
-    enabled-is : (b : Bool) → permits (getD (w .pre) t 0) (getD (w .post) t 0) (w .present) ≡ b → enabled (netIn w) (w .present) t ≡ b
+    enabled-is : (b : Bool) → enabledBy (getD (w .pre) t 0) (getD (w .post) t 0) (w .present) ≡ b → enabled (netIn w) (w .present) t ≡ b
     unfolding netIn
     enabled-is b p = enabled-in (netIn w) (w .present) t l ∙ p
 
-    pub fire-disabled : permits (getD (w .pre) t 0) (getD (w .post) t 0) (w .present) ≡ false → (answerOf (Refused Disabled) ≡ fireAnswer w t) × (w ≡ fireWalk w t)
+    pub fire-disabled : enabledBy (getD (w .pre) t 0) (getD (w .post) t 0) (w .present) ≡ false → (answerOf (Refused Disabled) ≡ fireAnswer w t) × (w ≡ fireWalk w t)
     unfolding answerOf refusal granted
     fire-disabled p =
         let e = answers true true false _ h (lt-ltb t (w .transitions) l) (enabled-is false p) refl in (sym e, sym (fires (fault 41 0) e))
 
-    pub fire-full : permits (getD (w .pre) t 0) (getD (w .post) t 0) (w .present) ≡ true → 65535 ≤ w .count → (answerOf Full ≡ fireAnswer w t) × (w ≡ fireWalk w t)
+    pub fire-full : enabledBy (getD (w .pre) t 0) (getD (w .post) t 0) (w .present) ≡ true → 65535 ≤ w .count → (answerOf Full ≡ fireAnswer w t) × (w ≡ fireWalk w t)
     unfolding answerOf granted
     fire-full p k =
         let e = answers true true true false h (lt-ltb t (w .transitions) l) (enabled-is true p) (le-ltb (w .count) 65535 k) in
         (sym e, sym (fires (fault 42 0) e))
 
-    pub fire-granted : (m : ℕ) → permits (getD (w .pre) t 0) (getD (w .post) t 0) (w .present) ≡ true → w .count < 65535
-        → m ≡ moved (getD (w .pre) t 0) (getD (w .post) t 0) (w .present)
+    pub fire-granted : (m : ℕ) → enabledBy (getD (w .pre) t 0) (getD (w .post) t 0) (w .present) ≡ true → w .count < 65535
+        → m ≡ firedBy (getD (w .pre) t 0) (getD (w .post) t 0) (w .present)
         → (answerOf Granted ≡ fireAnswer w t) × (movedTo w m (w .count + 1) ≡ fireWalk w t)
     unfolding answerOf granted fired netIn
     fire-granted m p k q =
         let e = answers true true true true h (lt-ltb t (w .transitions) l) (enabled-is true p) (lt-ltb (w .count) 65535 k) in
-        (sym e, ap (λ (x : ℕ). movedTo w x (w .count + 1)) q ∙ sym (fires none e))
+        (sym e, ap (λ (x : ℕ). movedTo w x (w .count + 1)) q ∙ sym (fires noFault e))

@@ -6,7 +6,7 @@ use mathlib.Core.List.{List}
 use lib.Dec.{eqb, ltb}
 use Rattle.net.specs.Step.{enabled, fired}
 use Rattle.net.specs.Table.{netOf}
-use Rattle.net.specs.Answer.{Fault, none, fault, refusal, loadFault}
+use Rattle.net.specs.Answer.{Fault, noFault, fault, refusal, loadFault}
 use Rattle.walk.specs.declared.Walk.{Walk}
 use Rattle.walk.specs.declared.Answer.{Answer}
 use Rattle.walk.specs.declared.Answer.the-variants.{Granted, Unloaded, Refused, Full}
@@ -15,7 +15,7 @@ use Rattle.walk.specs.State.{netIn, startedAt, movedTo, loaded}
 -- document 01's number and record of each answer; 0 where the call is granted
 unfoldable pub answerOf : Answer → Fault
 unfolding refusal
-answerOf Granted = none
+answerOf Granted = noFault
 answerOf Unloaded = fault 40 0
 answerOf (Refused r) = refusal r
 answerOf Full = fault 42 0
@@ -40,7 +40,7 @@ loadWalk w places m bytes = cond (granted (loadAnswer places m bytes)) (startedA
 unfoldable pub fireAnswer : Walk → ℕ → Fault
 fireAnswer w t =
     cond (loaded w)
-    (cond (ltb t (w .transitions)) (cond (enabled (netIn w) (w .present) t) (cond (ltb (w .count) 65535) none (fault 42 0)) (fault 41 0)) (fault 8 0))
+    (cond (ltb t (w .transitions)) (cond (enabled (netIn w) (w .present) t) (cond (ltb (w .count) 65535) noFault (fault 42 0)) (fault 41 0)) (fault 8 0))
     (fault 40 0)
 
 -- the marking after t, and one more firing
@@ -51,7 +51,7 @@ fireWalk w t = cond (granted (fireAnswer w t)) (movedTo w (fired (netIn w) (w .p
 
 -- 40 nothing loaded
 unfoldable pub loadedAnswer : Walk → Fault
-loadedAnswer w = cond (loaded w) none (fault 40 0)
+loadedAnswer w = cond (loaded w) noFault (fault 40 0)
 
 -- the start marking again, count 0
 unfoldable pub resetWalk : Walk → Walk

@@ -1,9 +1,10 @@
 -- The walk as a value, as document 01 has it ("The walk"): the net that it carries, and when it is loaded. Assumes nothing.
-use Prim.Native.Nat.{ℕ, zero, suc}
-use mathlib.Core.Bool.{Bool, true, _&&_}
+use Prim.Native.Nat.{ℕ}
+use mathlib.Core.Bool.{Bool, _&&_}
 use mathlib.Core.List.{List}
 use lib.ListN.{getD, replicate}
 use lib.Dec.{leb}
+use Rattle.tables.specs.Below.{everyBelow}
 use Rattle.bitset.specs.Sets.{within}
 use Rattle.net.specs.declared.Net.{Net}
 use Rattle.net.specs.Table.{placesGood}
@@ -11,14 +12,14 @@ use Rattle.walk.specs.declared.Walk.{Walk}
 
 -- the net that a walk carries
 unfoldable pub netIn : Walk → Net
-netIn w = record { places = w .places; count = w .transitions; pre = w .pre; post = w .post; action = w .action }
+netIn w = record { places = w .places; transitions = w .transitions; pre = w .pre; post = w .post; action = w .action }
 
 -- a walk that carries the net N, started at the marking m: no firing yet
 unfoldable pub startedAt : Net → ℕ → Walk
 startedAt N m =
     record {
       places = N .places;
-      transitions = N .count;
+      transitions = N .transitions;
       pre = N .pre;
       post = N .post;
       action = N .action;
@@ -57,11 +58,6 @@ empty =
 
 -- ---- loaded
 
--- each number below n passes the test f
-unfoldable pub allBelow : (ℕ → Bool) → ℕ → Bool
-allBelow f zero = true
-allBelow f (suc n) = allBelow f n && f n
-
 -- the pre set and the post set of t lie within the places
 unfoldable pub setsWithin : ℕ → (pre post : List ℕ) → ℕ → Bool
 setsWithin places pre post t = within places (getD pre t 0) && within places (getD post t 0)
@@ -74,7 +70,7 @@ transitionsGood n = leb 1 n && leb n 64
 unfoldable pub loaded : Walk → Bool
 loaded w =
     (placesGood (w .places) && transitionsGood (w .transitions))
-    && (allBelow (setsWithin (w .places) (w .pre) (w .post)) (w .transitions)
+    && (everyBelow (setsWithin (w .places) (w .pre) (w .post)) (w .transitions)
     && within (w .places) (w .start)
     && within (w .places) (w .present)
     && leb (w .count) 65535)

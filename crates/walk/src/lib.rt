@@ -1,8 +1,9 @@
 // The walk: a net of its own, a start marking, the present marking and the count of firings since load or reset.
 ghost use mathlib.Core.Path.{_≡_};
 ghost use Prim.Native.Nat.{_≤_};
+ghost use Rattle.tables.specs.Below as below;
 ghost use Rattle.walk.specs.State as state;
-ghost use Rattle.walk.specs.Calls as says;
+ghost use Rattle.walk.specs.Calls as calls;
 use net::Checked;
 use net::Refusal;
 
@@ -45,7 +46,7 @@ pub struct Reading {
 // Whether the sets of each transition lie within the places.
 fn sets_within<'a>(places: u32, transitions: u32, pre: &'a [u64; 64], post: &'a [u64; 64]) -> bool
     requires { ⌜ transitions ≤ 64 ⌝ }
-    ensures { λ r. ⌜ r ≡ state.allBelow (state.setsWithin places (now (pre .entry)) (now (post .entry))) transitions ⌝ }
+    ensures { λ r. ⌜ r ≡ below.everyBelow (state.setsWithin places (now (pre .entry)) (now (post .entry))) transitions ⌝ }
 {
     let mut t: u32 = 0;
     while t < transitions {
@@ -92,7 +93,7 @@ impl Walk {
 
     // Loads a net with a marking, whatever was loaded before: granted, or the first of 1 (places), 2, 3 and 7.
     pub fn load(self, places: u32, marking: u64, net: &[u8]) -> Outcome
-        ensures { λ r. ⌜ (says.answerOf (r .answer) ≡ says.loadAnswer places marking (now (net .entry))) × (r .walk ≡ says.loadWalk self places marking (now (net .entry))) ⌝ }
+        ensures { λ r. ⌜ (calls.answerOf (r .answer) ≡ calls.loadAnswer places marking (now (net .entry))) × (r .walk ≡ calls.loadWalk self places marking (now (net .entry))) ⌝ }
     {
         if let Checked::Refused(why) = net::check_load(places, marking, net) {
             return Outcome {
@@ -106,7 +107,7 @@ impl Walk {
         let action = decoded.action;
         let walk = Walk {
             places: decoded.places,
-            transitions: decoded.count,
+            transitions: decoded.transitions,
             pre,
             post,
             action,
@@ -122,7 +123,7 @@ impl Walk {
 
     // Fires a transition: granted, or the first of 40, 8, 41 and 42.
     pub fn fire(self, transition: u32) -> Outcome
-        ensures { λ r. ⌜ (says.answerOf (r .answer) ≡ says.fireAnswer self transition) × (r .walk ≡ says.fireWalk self transition) ⌝ }
+        ensures { λ r. ⌜ (calls.answerOf (r .answer) ≡ calls.fireAnswer self transition) × (r .walk ≡ calls.fireWalk self transition) ⌝ }
     {
         if !loaded(self) {
             return Outcome {
@@ -139,7 +140,7 @@ impl Walk {
         let t = transition as usize;
         let pre = self.pre[t];
         let post = self.post[t];
-        if !net::enabled(pre, post, self.present) {
+        if !net::enabled_by(pre, post, self.present) {
             return Outcome {
                 answer: Answer::Refused(Refusal::Disabled),
                 walk: self,
@@ -152,7 +153,7 @@ impl Walk {
             };
         }
         let mut next = self;
-        next.present = net::fired(pre, post, self.present);
+        next.present = net::fired_by(pre, post, self.present);
         next.count = self.count + 1;
         Outcome {
             answer: Answer::Granted,
@@ -162,7 +163,7 @@ impl Walk {
 
     // The start marking again, with the count at 0: granted, or 40.
     pub fn reset(self) -> Outcome
-        ensures { λ r. ⌜ (says.answerOf (r .answer) ≡ says.loadedAnswer self) × (r .walk ≡ says.resetWalk self) ⌝ }
+        ensures { λ r. ⌜ (calls.answerOf (r .answer) ≡ calls.loadedAnswer self) × (r .walk ≡ calls.resetWalk self) ⌝ }
     {
         if !loaded(self) {
             return Outcome {
@@ -181,7 +182,7 @@ impl Walk {
 
     // The present marking and the count: granted, or 40 with both 0.
     pub fn read(self) -> Reading
-        ensures { λ r. ⌜ (says.answerOf (r .answer) ≡ says.loadedAnswer self) × (r .marking ≡ says.readMarking self) × (r .count ≡ says.readCount self) ⌝ }
+        ensures { λ r. ⌜ (calls.answerOf (r .answer) ≡ calls.loadedAnswer self) × (r .marking ≡ calls.readMarking self) × (r .count ≡ calls.readCount self) ⌝ }
     {
         if !loaded(self) {
             return Reading {

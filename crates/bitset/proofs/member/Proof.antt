@@ -3,7 +3,7 @@ use mathlib.Core.Path.{refl, sym}
 use borrow.Author.Needs.{needs}
 use native.Mathlib.Nat.{not-le-of-lt}
 use Rattle.bitset.specs.Sets as sets
-use Rattle.bitset.proofs.Tests.{failed}
+use Rattle.tables.proofs.Tests.{failed}
 use Rattle.bitset.proofs.Relations.{member-lt}
 use Rattle.bitset.proofs.member.Statement.{statement}
 use Rattle.bitset.proofs.member.Tie as tie

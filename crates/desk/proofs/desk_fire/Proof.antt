@@ -14,7 +14,7 @@ firing-numbers-requires c κs = search needs
 returns : tie.Need-returns
 returns c = let e = c .before .fire .ensures in
     let n = c .firing-numbers .ensures in
-    (n .0 ∙ ap (λ (a : Answer). a .refused .number) e, n .1 ∙ ap (λ (a : Answer). a .refused .place) e, n .2 ∙ ap (λ (a : Answer). a .marking) e)
+    (n .0 ∙ ap (λ (a : Answer). a .found .number) e, n .1 ∙ ap (λ (a : Answer). a .found .place) e, n .2 ∙ ap (λ (a : Answer). a .marking) e)
 
 pub desk-fire-spec : {M : Type 1} → statement M
 desk-fire-spec = tie.close (tie.spec fire-requires firing-numbers-requires returns)

@@ -1,6 +1,6 @@
 -- `sample_walks::numbers` meets its contract. Assumes nothing.
 use mathlib.Core.Path.{refl}
-use Rattle.walk.specs.Calls as says
+use Rattle.walk.specs.Calls as calls
 use borrow.Author.Needs.{needs}
 use Rattle.sample_walks.proofs.numbers.Statement.{statement}
 use Rattle.sample_walks.proofs.numbers.Tie as tie
@@ -21,19 +21,19 @@ enum-told-3 : tie.Need-enum-told-3
 enum-told-3 c = search needs
 
 returns : tie.Need-returns
-unfolding says.answerOf
+unfolding calls.answerOf
 returns c = simp (c .enum-told .given .1) (refl, refl)
 
 returns-2 : tie.Need-returns-2
-unfolding says.answerOf
+unfolding calls.answerOf
 returns-2 c = simp (c .enum-told2 .given .1) (refl, refl)
 
 returns-3 : tie.Need-returns-3
-unfolding says.answerOf
+unfolding calls.answerOf
 returns-3 c = simp (c .before .before .answer .given .1) (c .refusal-numbers .ensures .0, c .refusal-numbers .ensures .1)
 
 returns-4 : tie.Need-returns-4
-unfolding says.answerOf
+unfolding calls.answerOf
 returns-4 c = simp (c .enum-told3 .given .1) (refl, refl)
 
 pub numbers-spec : {M : Type 1} → statement M

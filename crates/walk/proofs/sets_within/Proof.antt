@@ -5,19 +5,20 @@ use Prim.Native.Nat.{_≤_, _-_, zero-le}
 use native.Mathlib.Omega.{arith}
 use borrow.Author.Needs.{needs}
 use borrow.Author.Tests.{not-true, not-false}
-use Rattle.walk.specs.State.{allBelow, setsWithin}
-use Rattle.walk.proofs.Below.{all-none, all-more, all-not, all-done}
+use Rattle.tables.specs.Below.{everyBelow}
+use Rattle.tables.proofs.Below.{every-start, every-next, every-not, every-done}
+use Rattle.walk.specs.State.{setsWithin}
 use Rattle.walk.proofs.sets_within.Statement.{statement}
 use Rattle.walk.proofs.sets_within.Tie as tie
 
 abbrev Inv-loop : tie.InvT-loop
-Inv-loop places transitions pre post t₀ t = (t ≤ transitions) × (allBelow (setsWithin places pre post) t ≡ true)
+Inv-loop places transitions pre post t₀ t = (t ≤ transitions) × (true ≡ everyBelow (setsWithin places pre post) t)
 
 abbrev μ-loop : tie.MeasureT-loop
 μ-loop places transitions pre post t₀ t = transitions - t
 
 loop-holds : tie.Need-loop-holds Inv-loop μ-loop
-loop-holds c = (zero-le, all-none _)
+loop-holds c = (zero-le, every-start _)
 
 cast-i : tie.Need-cast-i Inv-loop μ-loop
 cast-i c = search needs
@@ -44,7 +45,7 @@ returns : tie.Need-returns Inv-loop μ-loop
 unfolding setsWithin
 returns c =
     sym
-    (all-not _ _ _ (c .before .before .before .before .before .loop-test .taken)
+    (every-not _ _ _ (c .before .before .before .before .before .loop-test .taken)
     (sym (ap₂ _&&_ (c .before .before .before .within .ensures) (c .before .within2 .ensures)) ∙ not-true _ (c .if1 .taken)))
 
 add-t : tie.Need-add-t Inv-loop μ-loop
@@ -57,12 +58,12 @@ loop-again : tie.Need-loop-again Inv-loop μ-loop
 unfolding setsWithin
 loop-again c = (
   omega arith,
-  all-more _ _ (c .before .before .before .before .before .before .loop .inv .1)
-      (sym (ap₂ _&&_ (c .before .before .before .within .ensures) (c .before .within2 .ensures)) ∙ not-false _ (c .if1 .left)),
+  every-next _ _ (c .before .before .before .before .before .before .loop .inv .1)
+      (sym (sym (ap₂ _&&_ (c .before .before .before .within .ensures) (c .before .within2 .ensures)) ∙ not-false _ (c .if1 .left))),
 )
 
 returns-2 : tie.Need-returns-2 Inv-loop μ-loop
-returns-2 c = sym (all-done _ _ _ (c .before .loop .inv .0) (c .loop-test .left) (c .before .loop .inv .1))
+returns-2 c = every-done _ _ _ (c .before .loop .inv .1) (c .before .loop .inv .0) (c .loop-test .left)
 
 pub sets-within-spec : {M : Type 1} → statement M
 sets-within-spec =

@@ -27,24 +27,24 @@ mul-post c = search needs
 element-copy-out-post : tie.Need-element-copy-out-post
 element-copy-out-post c = omega (arith, loaded-most _ (shown (c .before .before .before .loaded .ensures) (c .before .before .if1 .left)))
 
-enabled-requires : tie.Need-enabled-requires
-enabled-requires c κs = search needs
+enabled-by-requires : tie.Need-enabled-by-requires
+enabled-by-requires c κs = search needs
 
 returns-3 : tie.Need-returns-3
 returns-3 c =
     let a = c .before .before .before .before .before in
     fire-disabled _ _ (shown (a .before .loaded .ensures) (a .if1 .left)) (c .before .before .before .before .if2 .left)
-    (denied (c .before .enabled .ensures) (c .if3 .taken))
+    (denied (c .before .enabled-by .ensures) (c .if3 .taken))
 
 returns-4 : tie.Need-returns-4
 returns-4 c =
     let a = c .before .before .before .before .before .before in
     fire-full _ _ (shown (a .before .loaded .ensures) (a .if1 .left)) (c .before .before .before .before .before .if2 .left)
-    (shown (c .before .before .enabled .ensures) (c .before .if3 .left))
+    (shown (c .before .before .enabled-by .ensures) (c .before .if3 .left))
     (c .if4 .taken)
 
-fired-requires : tie.Need-fired-requires
-fired-requires c κs = search needs
+fired-by-requires : tie.Need-fired-by-requires
+fired-by-requires c κs = search needs
 
 add-next : tie.Need-add-next
 add-next c = search needs
@@ -54,9 +54,9 @@ unfolding movedTo
 returns-5 c =
     let a = c .before .before .before .before .before .before .before in
     fire-granted _ _ (shown (a .before .loaded .ensures) (a .if1 .left)) (c .before .before .before .before .before .before .if2 .left) _
-    (shown (c .before .before .before .enabled .ensures) (c .before .before .if3 .left))
+    (shown (c .before .before .before .enabled-by .ensures) (c .before .before .if3 .left))
     (c .before .if4 .left)
-    (c .fired .ensures)
+    (c .fired-by .ensures)
 
 pub fire-spec : {M : Type 1} → statement M
 fire-spec =
@@ -69,9 +69,9 @@ fire-spec =
     element-copy-out-pre
     mul-post
     element-copy-out-post
-    enabled-requires
+    enabled-by-requires
     returns-3
     returns-4
-    fired-requires
+    fired-by-requires
     add-next
     returns-5)

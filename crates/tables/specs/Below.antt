@@ -1,0 +1,18 @@
+-- Tests of all numbers below a bound. Assumes nothing.
+use Prim.Native.Nat.{ℕ, zero, suc}
+use mathlib.Core.Bool.{Bool, true, _&&_}
+use lib.Dec.{eqb, ltb}
+use Rattle.tables.specs.Lists.{first}
+
+-- every number below n passes the test f
+unfoldable pub everyBelow : (ℕ → Bool) → ℕ → Bool
+everyBelow f zero = true
+everyBelow f (suc n) = everyBelow f n && f n
+
+-- no number below n passes the test f
+unfoldable pub noneBelow : (ℕ → Bool) → ℕ → Bool
+noneBelow f n = eqb (first f n) n
+
+-- some number below n passes the test f
+unfoldable pub someBelow : (ℕ → Bool) → ℕ → Bool
+someBelow f n = ltb (first f n) n
