@@ -1,5 +1,6 @@
 #!/bin/bash
 # All host tests but the benchmark: DESK_LIB=FOLDER all.sh PATH-OF-TREECHECK
+# The program `samples` stands beside treecheck.
 set -eu
 : "${DESK_LIB:?the folder of libdesk.a, as an absolute path}"
 program=$(cd "$(dirname "$1")" && pwd)/$(basename "$1")
@@ -10,4 +11,6 @@ cargo build --quiet --release -p compare -p samples
 cargo run --quiet --release -p compare -- vectors vectors
 cargo run --quiet --release -p compare
 terminal/run.sh
+./r.sh "$(dirname "$program")/samples"
 ./program.sh "$program"
+./guide.sh "$program"

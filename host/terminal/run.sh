@@ -7,7 +7,7 @@ here=$(cd "$(dirname "$0")" && pwd)
 include=${DESK_INCLUDE:-$here/../../include}
 archive=${DESK_LIB:?the folder of libdesk.a}/libdesk.a
 libraries=()
-for library in ${DESK_LINK:-pthread dl m}; do libraries+=("-l$library"); done
+for library in ${DESK_LINK:-}; do libraries+=("-l$library"); done
 work=$(mktemp -d)
 trap 'rm -rf "$work"' EXIT
 

@@ -437,8 +437,36 @@ static void full_files(void)
     }
 }
 
-int main(void)
+/* The tables of "R holds 2" as files, to be compared with the other places that
+ * have them: 0 where they are written. */
+static int write_table(const char *folder, const char *name, table t)
 {
+    char path[4096];
+    int size = snprintf(path, sizeof path, "%s/%s", folder, name);
+    FILE *file = size > 0 && (size_t)size < sizeof path ? fopen(path, "wb") : NULL;
+    if (file == NULL) {
+        return 1;
+    }
+    size_t written = fwrite(t.bytes, 1, t.len, file);
+    return fclose(file) != 0 || written != t.len;
+}
+
+static int write_tables(const char *folder)
+{
+    int bad = write_table(folder, "ASK", ask_r(3, 2, 3, DESK_HOLDS));
+    bad |= write_table(folder, "NET", net_r(3));
+    bad |= write_table(folder, "FORMULA", formulas_r());
+    bad |= write_table(folder, "TREE", holds_tree());
+    give_back();
+    return bad;
+}
+
+/* With a folder as argument, writes the tables of "R holds 2" there instead. */
+int main(int argc, char **argv)
+{
+    if (argc == 2) {
+        return write_tables(argv[1]);
+    }
     samples();
     give_back();
     check_refusals();

@@ -1,18 +1,18 @@
 -- Membership: what it is of an intersection, a union, a difference, one bit and a collected set; two sets with the same members are
 -- equal. For all numbers. Assumes nothing.
-use mathlib.Core.Path.{_≡_, refl, sym, ap, ap₂, _∙_, subst}
-use mathlib.Core.Bool.{Bool, true, false, cond, not, _&&_, _||_, true≢false, false≢true}
+use mathlib.Core.Path.{_≡_, refl, sym, ap, ap₂, _∙_}
+use mathlib.Core.Bool.{true, false, not, _&&_, _||_}
 use mathlib.Core.Logic.{_⊎_, inl, inr}
-use Prim.Native.Nat.{ℕ, zero, suc, _+_, _-_, _*_, _/_, _%_, _^_, _≤_, _<_, min, max, zero-le, suc-le-suc}
-use native.Mathlib.Nat.{mod-lt, zero-lt-suc, pow-zero, pow-suc, pow-succ', div-one, div-div-eq-div-mul, div-add-mod', le-of-suc-le-suc, not-suc-le-zero, add-zero, zero-div, zero-mod, lt-irrefl, mul-comm, two-pow-succ}
+use Prim.Native.Nat.{ℕ, zero, suc, _+_, _-_, _*_, _/_, _%_, _^_, _≤_, _<_, min, max}
+use native.Mathlib.Nat.{mod-lt, zero-lt-suc, pow-succ', div-one, div-div-eq-div-mul, div-add-mod', zero-div, two-pow-succ}
 use native.Mathlib.Omega.{arith}
-use lib.Bits.{bitAnd, bitOr, and-step, or-step, and-shr, or-shr, and-le-l, or-shifted, or-comm}
+use lib.Bits.{bitAnd, bitOr, and-step, or-step, and-shr, or-shr, and-le-l}
 use lib.Arith.{digits-mod, digits-div, bin-ind, lt-one}
-use lib.Pow.{pow-pos, shr-shr}
-use lib.Dec.{eqb, ltb, eqb·zero-suc, eqb·suc-zero, eqb·suc-suc}
-use borrow.Author.Tests.{eqb-true, eq-eqb, ne-eqb, eqb-false, lt-ltb, le-ltb, ltb-true, ltb-false}
+use lib.Pow.{shr-shr}
+use lib.Dec.{eqb, eqb·zero-suc, eqb·suc-zero, eqb·suc-suc}
+use borrow.Author.Tests.{eqb-true, eqb-false}
 use Rattle.tables.proofs.Tests.{passed}
-use Rattle.bitset.specs.Sets.{member, subset, disjoint, difference, union, within, collect}
+use Rattle.bitset.specs.Sets.{member, difference, union}
 
 -- ---- digits
 

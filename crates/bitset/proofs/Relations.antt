@@ -1,19 +1,19 @@
 -- What the tests of two sets say of their members; the sets below a bound; the sets that a loop collects. For all numbers.
 -- Assumes nothing.
 use mathlib.Core.Path.{_≡_, refl, sym, ap, ap₂, _∙_, subst}
-use mathlib.Core.Bool.{Bool, true, false, cond, not, _&&_, _||_, true≢false, false≢true}
+use mathlib.Core.Bool.{Bool, true, false, cond, _&&_, _||_, or-false, true≢false, false≢true}
 use mathlib.Core.Logic.{_⊎_, inl, inr}
-use Prim.Native.Nat.{ℕ, zero, suc, _+_, _-_, _*_, _/_, _%_, _^_, _≤_, _<_}
-use native.Mathlib.Nat.{add-comm, add-zero, zero-add, one-mul, div-eq-of-lt, two-pow-succ, lt-of-lt-of-le, le-add-right, div-add-mod', mod-lt, lt-suc-self, lt-trans}
+use Prim.Native.Nat.{ℕ, zero, suc, _+_, _*_, _/_, _%_, _^_, _≤_, _<_}
+use native.Mathlib.Nat.{add-comm, add-zero, one-mul, div-eq-of-lt, two-pow-succ, lt-of-lt-of-le, div-add-mod', mod-lt, lt-suc-self, lt-trans}
 use native.Mathlib.Numerals.{add-one}
 use native.Mathlib.Omega.{arith}
-use lib.Bits.{bitAnd, bitOr, or-shifted, or-comm, and-comm, or-lt, and-le-l}
-use lib.Pow.{pow-pos, pow-lt, pow-mono, shl-exact}
+use lib.Bits.{bitAnd, bitOr, or-shifted, or-comm, and-comm}
+use lib.Pow.{pow-pos, pow-mono, shl-exact}
 use lib.Dec.{eqb, ltb}
-use borrow.Author.Tests.{eqb-true, eq-eqb, ne-eqb, eqb-false, lt-ltb, le-ltb, ltb-true, ltb-false}
-use Rattle.bitset.specs.Sets.{member, subset, disjoint, difference, union, within, collect, add}
+use borrow.Author.Tests.{eqb-true, eq-eqb, eqb-false, lt-ltb, le-ltb, ltb-true, ltb-false}
+use Rattle.bitset.specs.Sets.{member, subset, disjoint, union, within, collect, add}
 use Rattle.tables.proofs.Tests.{passed, and-left, and-right, and-intro, same-test, failed}
-use Rattle.bitset.proofs.Membership.{member-and, member-union, member-difference, member-empty, member-bit, member-shift, set-ext, some-member}
+use Rattle.bitset.proofs.Membership.{member-and, member-union, member-empty, member-bit, member-shift, set-ext, some-member}
 
 -- ---- subset
 
@@ -149,10 +149,6 @@ lt-skip : (k n : ℕ) → (k ≡ n → ⊥) → ltb k n ≡ ltb k (suc n)
 lt-skip k n d =
     same-test (ltb k n) (ltb k (suc n)) (λ h. let l : k < n = ltb-true k n h in lt-ltb k (suc n) (omega arith))
     (λ h. let l : k < suc n = ltb-true k (suc n) h in lt-ltb k n (omega arith))
-
-or-false : (b : Bool) → (b || false) ≡ b
-or-false true = refl
-or-false false = refl
 
 collect-none : (f : ℕ → Bool) (k : ℕ) → member (collect f 0) k ≡ false
 unfolding collect

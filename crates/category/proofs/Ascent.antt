@@ -9,10 +9,11 @@ use native.Mathlib.Omega.{arith}
 use lib.Dec.{eqb}
 use borrow.Author.Tests.{ltb-true, ne-eqb, not-true, not-false}
 use Rattle.tables.proofs.Entries.{before-first, at-first, first-le}
+use Rattle.tables.proofs.Below.{lt-or-ge}
 use Rattle.category.specs.Records.{count, actionAt, hasAction, lendsAt}
 use Rattle.category.specs.Faults.{ascends, recordBad}
-use Rattle.category.specs.Search.{ascending, LowerBound}
-use Rattle.category.proofs.Scan.{lt-or-ge}
+use Rattle.category.specs.Serving.{ascendingPrefix, LowerBound}
+use Rattle.category.proofs.Scan.{last-or-before}
 
 -- the first n records have strictly ascending actions
 pub record Rising (file : List ℕ) (n : ℕ) : Type 0 where
@@ -40,23 +41,23 @@ rising file n h = record { rises = go }
         by ih (inl e) = subst (λ (x : ℕ). actionAt file x < actionAt file (suc k)) (sym e) next
         by ih (inr q) = let a : actionAt file j < actionAt file k = ih q (omega arith) in omega (arith, next)
 
-pub ascending-ascends : (file : List ℕ) (n : ℕ) → n ≡ ascending file → (k : ℕ) → k < n → ascends file k ≡ true
-unfolding ascending
-ascending-ascends file n e k l =
+pub prefix-ascends : (file : List ℕ) (n : ℕ) → n ≡ ascendingPrefix file → (k : ℕ) → k < n → ascends file k ≡ true
+unfolding ascendingPrefix
+prefix-ascends file n e k l =
     not-false (ascends file k) (before-first (λ i. not (ascends file i)) (count file) k (subst (λ (x : ℕ). k < x) e l))
 
-pub ascending-rising : (file : List ℕ) (n : ℕ) → n ≡ ascending file → Rising file n
-ascending-rising file n e = rising file n (ascending-ascends file n e)
+pub prefix-rising : (file : List ℕ) (n : ℕ) → n ≡ ascendingPrefix file → Rising file n
+prefix-rising file n e = rising file n (prefix-ascends file n e)
 
-pub ascending-le : (file : List ℕ) (n : ℕ) → n ≡ ascending file → n ≤ count file
-unfolding ascending
-ascending-le file n e = subst (λ (x : ℕ). x ≤ count file) (sym e) (first-le (λ i. not (ascends file i)) (count file))
+pub prefix-le : (file : List ℕ) (n : ℕ) → n ≡ ascendingPrefix file → n ≤ count file
+unfolding ascendingPrefix
+prefix-le file n e = subst (λ (x : ℕ). x ≤ count file) (sym e) (first-le (λ i. not (ascends file i)) (count file))
 
--- the record behind those with ascending actions is faulty
-pub ascending-bad : (file : List ℕ) (n i : ℕ) → n ≡ ascending file → n ≤ i → i ≤ n → i < count file → recordBad file i ≡ true
-unfolding ascending recordBad
-ascending-bad file n i e a b l =
-    let q : ascending file ≡ i = omega arith in
+-- the record after those with ascending actions is faulty
+pub prefix-bad : (file : List ℕ) (n i : ℕ) → n ≡ ascendingPrefix file → n ≤ i → i ≤ n → i < count file → recordBad file i ≡ true
+unfolding ascendingPrefix recordBad
+prefix-bad file n i e a b l =
+    let q : ascendingPrefix file ≡ i = omega arith in
     let z : ascends file i ≡ false =
     not-true (ascends file i)
     (subst (λ (x : ℕ). not (ascends file x) ≡ true) q (at-first (λ i. not (ascends file i)) (count file) (omega arith))) in
@@ -78,11 +79,8 @@ module _ {file : List ℕ} {a n low high : ℕ} (r : Rising file n) (p : Narrowe
   narrowed-low m l e = record { order = omega arith; end = p .end; below = under; above = p .above }
     where
       under : (k : ℕ) → k < m + 1 → actionAt file k < a
-      under k q = ⊎-elim same less (last k q)
+      under k q = ⊎-elim same less (last-or-before m k q)
         where
-          last : (k : ℕ) → k < m + 1 → (k ≡ m) ⊎ (k < m)
-          last k q = let h : k ≤ m = omega arith in eq-or-lt-of-le h
-
           same : k ≡ m → actionAt file k < a
           same e′ = subst (λ (x : ℕ). actionAt file x < a) (sym e′) e
 

@@ -1,9 +1,9 @@
 -- The laws of category files.
-pub mod Bools
 pub mod Scan
 pub mod Texts
 pub mod Ascent
 pub mod Sources
 pub mod Answers
+pub mod Faultless
 pub mod Places
 pub mod Loader

@@ -1,24 +1,20 @@
 -- What a scan holds that looks for the lowest number that passes a test: for any test. Assumes nothing.
-use mathlib.Core.Path.{_≡_, refl, sym, ap, _∙_, subst}
-use mathlib.Core.Bool.{Bool, true, false, true≢false}
-use mathlib.Core.Logic.{_⊎_, inl, inr, ⊎-elim}
+use mathlib.Core.Path.{_≡_, sym, ap, _∙_, subst}
+use mathlib.Core.Bool.{Bool, true, false}
+use mathlib.Core.Logic.{_⊎_, ⊎-elim}
 use Prim.Native.Nat.{ℕ, _+_, _≤_, _<_, zero-le}
 use native.Mathlib.Nat.{eq-or-lt-of-le}
 use native.Mathlib.Omega.{arith}
 use lib.Dec.{ltb}
-use borrow.Author.Tests.{lt-ltb, eq-eqb, eqb-true, ltb-true, ltb-false}
+use Rattle.tables.specs.Below.{someBelow}
 use Rattle.tables.specs.Lists.{first}
 use Rattle.tables.proofs.Entries.{first-is, first-none, before-first, at-first, first-le}
-use Rattle.category.specs.Records.{none, some}
-use Rattle.category.specs.Search.{LowestFrom}
+use Rattle.tables.proofs.Below.{lt-or-ge}
+use Rattle.category.specs.Serving.{LowestFrom}
 
--- two numbers
-pub lt-or-ge : (a b : ℕ) → (a < b) ⊎ (b ≤ a)
-lt-or-ge a b = by (ltb a b) refl
-  where
-    by : (t : Bool) → ltb a b ≡ t → (a < b) ⊎ (b ≤ a)
-    by true e = inl (ltb-true a b e)
-    by false e = inr (ltb-false a b e)
+-- a number below i + 1
+pub last-or-before : (i k : ℕ) → k < i + 1 → (k ≡ i) ⊎ (k < i)
+last-or-before i k l = let h : k ≤ i = omega arith in eq-or-lt-of-le h
 
 -- of the numbers from `from` on and below n those below i are passed, and failed the test
 pub record Passed (f : ℕ → Bool) (from n i : ℕ) : Type 0 where
@@ -34,11 +30,8 @@ passed-more {f} {from} {n} {i} p l e =
     record {
       start = omega (arith, p .start);
       end = omega arith;
-      before = λ k a b. ⊎-elim (λ q. subst (λ (x : ℕ). f x ≡ false) (sym q) e) (λ q. p .before k a q) (last k b);
+      before = λ k a b. ⊎-elim (λ q. subst (λ (x : ℕ). f x ≡ false) (sym q) e) (λ q. p .before k a q) (last-or-before i k b);
     }
-  where
-    last : (k : ℕ) → k < i + 1 → (k ≡ i) ⊎ (k < i)
-    last k b = let h : k ≤ i = omega arith in eq-or-lt-of-le h
 
 -- a scan from 0 on that finds one, and one that finds none
 pub passed-first : {f : ℕ → Bool} {n i : ℕ} → Passed f 0 n i → i < n → f i ≡ true → i ≡ first f n
@@ -60,26 +53,9 @@ lowest-first {f} {n} {r} p = ⊎-elim at (λ l. sym (first-is f n r l (λ k q. p
     at : r ≡ n → r ≡ first f n
     at e = e ∙ sym (first-none f n (λ k q. p .before k zero-le (omega arith)))
 
--- one that passes
-pub first-below : (f : ℕ → Bool) (n k : ℕ) → k < n → f k ≡ true → first f n < n
-first-below f n k l e = ⊎-elim (λ h. absurd (true≢false (sym e ∙ before-first f n k h))) (λ h. omega arith) (lt-or-ge k (first f n))
-
-pub some-is : (f : ℕ → Bool) (n k : ℕ) → k < n → f k ≡ true → some f n ≡ true
-unfolding some
-some-is f n k l e = lt-ltb (first f n) n (first-below f n k l e)
-
--- none that passes
-pub none-is : (f : ℕ → Bool) (n : ℕ) → ((k : ℕ) → k < n → f k ≡ false) → none f n ≡ true
-unfolding none
-none-is f n h = eq-eqb (first f n) n (first-none f n h)
-
-pub none-at : (f : ℕ → Bool) (n : ℕ) → none f n ≡ true → (k : ℕ) → k < n → f k ≡ false
-unfolding none
-none-at f n e k l = before-first f n k (subst (λ (x : ℕ). k < x) (sym (eqb-true (first f n) n e)) l)
-
 -- a scan from a number on, where none before that number passes
-pub lowest-some : {f : ℕ → Bool} {from n r : ℕ} → LowestFrom f from n r → ((k : ℕ) → k < from → f k ≡ false) → ltb r n ≡ some f n
-unfolding some
+pub lowest-some : {f : ℕ → Bool} {from n r : ℕ} → LowestFrom f from n r → ((k : ℕ) → k < from → f k ≡ false) → ltb r n ≡ someBelow f n
+unfolding someBelow
 lowest-some {f} {from} {n} {r} p h = ap (λ (x : ℕ). ltb x n) (lowest-first whole)
   where
     all : (k : ℕ) → k < r → f k ≡ false

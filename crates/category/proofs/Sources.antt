@@ -1,38 +1,45 @@
--- The record that has the text of an action, and the part of the file that is its text. Assumes nothing.
-use mathlib.Core.Path.{_≡_, sym, ap, _∙_}
-use mathlib.Core.Bool.{cond}
+-- The record that has the text of an action, and the part of the file that is its text, which lies inside the file. Assumes nothing.
+use mathlib.Core.Path.{_≡_, refl, sym, ap, _∙_}
+use mathlib.Core.Bool.{Bool, true, false, cond}
 use mathlib.Core.List.{List}
-use Prim.Native.Nat.{ℕ, _+_, _*_, _≤_, _<_}
-use lib.Dec.{ltb}
-use borrow.Author.Tests.{lt-ltb, le-ltb, eq-eqb, ne-eqb}
-use Rattle.category.specs.Records.{count, kindAt, lenderAt, some, textLength, lendsAt}
-use Rattle.category.specs.Labels.{has, recordOf, lenderOf, sourceAt, sourceOf, textOffset, textSize}
-use Rattle.category.specs.Search.{LowestFrom}
+use Prim.Native.Nat.{ℕ, _+_, _-_, _*_, _≤_, _<_}
+use native.Mathlib.Omega.{arith}
+use lib.ListN.{length, drop, length-drop}
+use lib.Seq.{length-take-le}
+use lib.Dec.{eqb, ltb}
+use borrow.Author.Tests.{lt-ltb, le-ltb, eq-eqb, ne-eqb, ltb-true, ltb-false}
+use Rattle.tables.specs.Below.{someBelow}
+use Rattle.tables.proofs.Tests.{if-true, if-false}
+use Rattle.tables.proofs.Entries.{first-le}
+use Rattle.tables.proofs.Counts.{record-inside}
+use Rattle.category.specs.Records.{count, kindAt, lenderAt, textByte, textLength, lendsAt}
+use Rattle.category.specs.Labels.{has, recordOf, lenderOf, sourceAt, sourceOf, textOffset, textSize, textOf}
+use Rattle.category.specs.Serving.{LowestFrom}
 use Rattle.category.proofs.Scan.{lowest-first}
 
 module _ (file : List ℕ) (a : ℕ) where
   pub has-is : (i : ℕ) → i ≡ recordOf file a → ltb i (count file) ≡ has file a
-  unfolding recordOf has some
+  unfolding recordOf has someBelow
   has-is i e = ap (λ (x : ℕ). ltb x (count file)) e
 
   pub source-none : (i : ℕ) → i ≡ recordOf file a → count file ≤ i → count file ≡ sourceOf file a
   unfolding sourceOf
-  source-none i e l = sym (ap (λ b. cond b (sourceAt file (recordOf file a)) (count file)) (sym (has-is i e) ∙ le-ltb i (count file) l))
+  source-none i e l = sym (if-false _ _ _ (sym (has-is i e) ∙ le-ltb i (count file) l))
 
   source-at : (i : ℕ) → i ≡ recordOf file a → i < count file → sourceAt file i ≡ sourceOf file a
   unfolding sourceOf
   source-at i e l =
-      ap (sourceAt file) e ∙ sym (ap (λ b. cond b (sourceAt file (recordOf file a)) (count file)) (sym (has-is i e) ∙ lt-ltb i (count file) l))
+      ap (sourceAt file) e ∙ sym (if-true _ _ _ (sym (has-is i e) ∙ lt-ltb i (count file) l))
 
   pub source-lender : (i r : ℕ) → i ≡ recordOf file a → i < count file → kindAt file i ≡ 1
       → LowestFrom (lendsAt file (lenderAt file i)) 0 (count file) r → r ≡ sourceOf file a
   unfolding sourceAt lenderOf
   source-lender i r e l k p =
-      lowest-first p ∙ sym (ap (λ b. cond b (lenderOf file (lenderAt file i)) i) (eq-eqb (kindAt file i) 1 k)) ∙ source-at i e l
+      lowest-first p ∙ sym (if-true _ _ _ (eq-eqb (kindAt file i) 1 k)) ∙ source-at i e l
 
   pub source-own : (i : ℕ) → i ≡ recordOf file a → i < count file → (kindAt file i ≡ 1 → ⊥) → i ≡ sourceOf file a
   unfolding sourceAt
-  source-own i e l k = sym (ap (λ b. cond b (lenderOf file (lenderAt file i)) i) (ne-eqb (kindAt file i) 1 k)) ∙ source-at i e l
+  source-own i e l k = sym (if-false _ _ _ (ne-eqb (kindAt file i) 1 k)) ∙ source-at i e l
 
   -- the part, by the record
   module _ (i : ℕ) (e : i ≡ sourceOf file a) where
@@ -51,3 +58,30 @@ module _ (file : List ℕ) (a : ℕ) where
     pub size-out : count file ≤ i → 0 ≡ textSize file a
     unfolding textSize
     size-out l = rw (← e, le-ltb i (count file) l)
+
+pub text-length-le : (file : List ℕ) (i : ℕ) → textLength file i ≤ 24
+unfolding textLength
+text-length-le file i = first-le (λ j. eqb (textByte file i j) 0) 24
+
+pub part-inside : (file : List ℕ) (a : ℕ) → textOffset file a + textSize file a ≤ length file
+unfolding textOffset textSize
+part-inside file a = by (sourceOf file a) (ltb (sourceOf file a) (count file)) refl
+  where
+    by : (i : ℕ) (b : Bool) → ltb i (count file) ≡ b → cond b (i * 32 + 8) 0 + cond b (textLength file i) 0 ≤ length file
+    by i true e = omega (arith, record-inside 32 (length file) i (ltb-true i (count file) e), text-length-le file i)
+    by i false e = omega arith
+
+-- the text's length
+pub length-text : (file : List ℕ) (a : ℕ) → length (textOf file a) ≡ textSize file a
+unfolding textOf
+length-text file a = length-take-le (textSize file a) (drop (textOffset file a) file) (rw (length-drop (textOffset file a) file) room)
+  where
+    room : textSize file a ≤ length file - textOffset file a
+    room = omega (arith, part-inside file a)
+
+-- no record, no text
+pub lacks : (file : List ℕ) (a : ℕ) → has file a ≡ false → 0 ≡ textSize file a
+lacks file a e = size-out file a (count file) none (omega arith)
+  where
+    none : count file ≡ sourceOf file a
+    none = source-none file a (recordOf file a) refl (ltb-false (recordOf file a) (count file) (has-is file a (recordOf file a) refl ∙ e))

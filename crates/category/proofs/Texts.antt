@@ -13,37 +13,14 @@ use lib.Seq.{getD-drop}
 use lib.Dec.{eqb, leb}
 use borrow.Author.Tests.{lt-ltb, le-ltb, le-leb, leb-true, eq-eqb, eqb-true, not-false}
 use Rattle.tables.specs.Bytes.{little, field}
+use Rattle.tables.specs.Below.{everyBelow, noneBelow}
 use Rattle.tables.specs.Lists.{first}
 use Rattle.tables.proofs.Entries.{before-first, at-first}
-use Rattle.category.specs.Records.{none, textByte, textLength}
-use Rattle.category.specs.Faults.{goodByte, wrongByte, textIs}
-use Rattle.category.specs.Texts.{every, follows, runFollows, textGood}
-use Rattle.category.proofs.Bools.{and-left, and-right, same-truth}
-use Rattle.category.proofs.Scan.{lt-or-ge, none-is, none-at}
-
--- ---- every number below n passes
-
--- a loop's next turn, and its end
-pub every-next : (f : ℕ → Bool) (n : ℕ) {ok b : Bool} → ok ≡ every f n → b ≡ f n → (ok && b) ≡ every f (n + 1)
-unfolding every
-every-next f n p q = ap₂ _&&_ p q ∙ ap (every f) (sym (add-one n))
-
-pub every-done : (f : ℕ → Bool) (n j : ℕ) {ok : Bool} → ok ≡ every f j → j ≤ n → n ≤ j → ok ≡ every f n
-every-done f n j p a b = let e : j ≡ n = omega arith in p ∙ ap (every f) e
-
-every-at : (f : ℕ → Bool) (n k : ℕ) → every f n ≡ true → k < n → f k ≡ true
-unfolding every
-every-at f zero k e l = absurd (not-suc-le-zero l)
-every-at f (suc n) k e l =
-    ⊎-elim
-    (λ q. subst (λ (x : ℕ). f x ≡ true) (sym q) (and-right (every f n) (f n) e))
-    (λ q. every-at f n k (and-left (every f n) (f n) e) q)
-    (eq-or-lt-of-le (le-of-suc-le-suc l))
-
-every-is : (f : ℕ → Bool) (n : ℕ) → ((k : ℕ) → k < n → f k ≡ true) → every f n ≡ true
-unfolding every
-every-is f zero h = refl
-every-is f (suc n) h = ap₂ _&&_ (every-is f n (λ k l. h k (omega arith))) (h n (omega arith))
+use Rattle.tables.proofs.Below.{lt-or-ge, every-at, every-is, none-is, none-at}
+use Rattle.tables.proofs.Tests.{and-left, and-right, same-test}
+use Rattle.category.specs.Records.{textByte, textLength}
+use Rattle.category.specs.Faults.{goodByte, wrongByte, textIs, textGood}
+use Rattle.category.specs.Serving.{follows, runFollows}
 
 -- ---- one byte
 
@@ -67,9 +44,9 @@ wrong-before : (size j b : ℕ) → j < size → wrongByte size j b ≡ not (goo
 unfolding wrongByte
 wrong-before size j b l = rw (lt-ltb j size l)
 
-wrong-behind : (size j b : ℕ) → size ≤ j → wrongByte size j b ≡ not (eqb b 0)
+wrong-after : (size j b : ℕ) → size ≤ j → wrongByte size j b ≡ not (eqb b 0)
 unfolding wrongByte
-wrong-behind size j b l = rw (le-ltb j size l)
+wrong-after size j b l = rw (le-ltb j size l)
 
 zero-not-good : goodByte 0 ≡ true → ⊥
 unfolding goodByte
@@ -81,10 +58,10 @@ abbrev sizeOf : (ℕ → ℕ) → ℕ
 sizeOf t = first (λ j. eqb (t j) 0) 24
 
 abbrev run : (ℕ → ℕ) → ℕ → Bool
-run t from = every (λ k. follows (t (from + k)) (t (from + k + 1))) 16
+run t from = everyBelow (λ k. follows (t (from + k)) (t (from + k + 1))) 16
 
 module _ (t : ℕ → ℕ) where
-  -- the two runs, and each byte behind another
+  -- the two runs, and each byte after another
   runs-follow : run t 0 ≡ true → run t 7 ≡ true → (k : ℕ) → k < 23 → follows (t k) (t (k + 1)) ≡ true
   runs-follow a b k l =
       ⊎-elim
@@ -96,7 +73,7 @@ module _ (t : ℕ → ℕ) where
   follow-run : ((k : ℕ) → k < 23 → follows (t k) (t (k + 1)) ≡ true) → (from : ℕ) → from ≤ 7 → run t from ≡ true
   follow-run h from l = every-is (λ k. follows (t (from + k)) (t (from + k + 1))) 16 (λ k q. h (from + k) (omega arith))
 
-  -- a good first byte, and each of the others may stand behind the one before it: no byte is wrong
+  -- a good first byte, and each of the others may stand after the one before it: no byte is wrong
   module _ (g : goodByte (t 0) ≡ true) (h : (k : ℕ) → k < 23 → follows (t k) (t (k + 1)) ≡ true) where
     next : (k : ℕ) → k < 23 → follows (t k) (t (suc k)) ≡ true
     next k l = subst (λ (x : ℕ). follows (t k) (t x) ≡ true) (add-one k) (h k l)
@@ -119,7 +96,7 @@ module _ (t : ℕ → ℕ) where
     none-wrong j m =
         ⊎-elim
         (λ l. wrong-before (sizeOf t) j (t j) l ∙ ap not (goods j l m))
-        (λ l. wrong-behind (sizeOf t) j (t j) l ∙ ap not (zeros j l m))
+        (λ l. wrong-after (sizeOf t) j (t j) l ∙ ap not (zeros j l m))
         (lt-or-ge j (sizeOf t))
 
     one-byte : 1 ≤ sizeOf t
@@ -135,7 +112,7 @@ module _ (t : ℕ → ℕ) where
     good-at j l m = not-false (goodByte (t j)) (sym (wrong-before (sizeOf t) j (t j) l) ∙ h j m)
 
     zero-at : (j : ℕ) → sizeOf t ≤ j → j < 24 → eqb (t j) 0 ≡ true
-    zero-at j l m = not-false (eqb (t j) 0) (sym (wrong-behind (sizeOf t) j (t j) l) ∙ h j m)
+    zero-at j l m = not-false (eqb (t j) 0) (sym (wrong-after (sizeOf t) j (t j) l) ∙ h j m)
 
     follow-all : (k : ℕ) → k < 23 → follows (t k) (t (k + 1)) ≡ true
     follow-all k m =
@@ -144,10 +121,10 @@ module _ (t : ℕ → ℕ) where
         (λ l. zero-follows (t k) (t (k + 1)) (zero-at (k + 1) l (omega arith)))
         (lt-or-ge (k + 1) (sizeOf t))
 
-  runs-good : (goodByte (t 0) && run t 0 && run t 7) ≡ (leb 1 (sizeOf t) && none (λ j. wrongByte (sizeOf t) j (t j)) 24)
-  runs-good = same-truth _ _ to from
+  runs-good : (goodByte (t 0) && run t 0 && run t 7) ≡ (leb 1 (sizeOf t) && noneBelow (λ j. wrongByte (sizeOf t) j (t j)) 24)
+  runs-good = same-test _ _ to from
     where
-      to : (goodByte (t 0) && run t 0 && run t 7) ≡ true → (leb 1 (sizeOf t) && none (λ j. wrongByte (sizeOf t) j (t j)) 24) ≡ true
+      to : (goodByte (t 0) && run t 0 && run t 7) ≡ true → (leb 1 (sizeOf t) && noneBelow (λ j. wrongByte (sizeOf t) j (t j)) 24) ≡ true
       to e =
           let p : (goodByte (t 0) && run t 0) ≡ true = and-left (goodByte (t 0) && run t 0) (run t 7) e in
           let g : goodByte (t 0) ≡ true = and-left (goodByte (t 0)) (run t 0) p in
@@ -155,11 +132,11 @@ module _ (t : ℕ → ℕ) where
           runs-follow (and-right (goodByte (t 0)) (run t 0) p) (and-right (goodByte (t 0) && run t 0) (run t 7) e) in
           ap₂ _&&_ (le-leb 1 (sizeOf t) (one-byte g h)) (none-is (λ j. wrongByte (sizeOf t) j (t j)) 24 (none-wrong g h))
 
-      from : (leb 1 (sizeOf t) && none (λ j. wrongByte (sizeOf t) j (t j)) 24) ≡ true → (goodByte (t 0) && run t 0 && run t 7) ≡ true
+      from : (leb 1 (sizeOf t) && noneBelow (λ j. wrongByte (sizeOf t) j (t j)) 24) ≡ true → (goodByte (t 0) && run t 0 && run t 7) ≡ true
       from e =
-          let s : 1 ≤ sizeOf t = leb-true 1 (sizeOf t) (and-left (leb 1 (sizeOf t)) (none (λ j. wrongByte (sizeOf t) j (t j)) 24) e) in
+          let s : 1 ≤ sizeOf t = leb-true 1 (sizeOf t) (and-left (leb 1 (sizeOf t)) (noneBelow (λ j. wrongByte (sizeOf t) j (t j)) 24) e) in
           let h : (j : ℕ) → j < 24 → wrongByte (sizeOf t) j (t j) ≡ false =
-          none-at (λ j. wrongByte (sizeOf t) j (t j)) 24 (and-right (leb 1 (sizeOf t)) (none (λ j. wrongByte (sizeOf t) j (t j)) 24) e) in
+          λ j l. none-at (λ j. wrongByte (sizeOf t) j (t j)) 24 j (and-right (leb 1 (sizeOf t)) (noneBelow (λ j. wrongByte (sizeOf t) j (t j)) 24) e) l in
           ap₂ _&&_ (ap₂ _&&_ (good-at s h 0 s (omega arith)) (follow-run (follow-all s h) 0 zero-le)) (follow-run (follow-all s h) 7 (omega arith))
 
 pub text-good : (file : List ℕ) (i : ℕ) → (goodByte (textByte file i 0) && runFollows file i 0 && runFollows file i 7) ≡ textGood file i
@@ -200,38 +177,42 @@ zero-field n p at m l h a b = zero-little n (drop p l) (λ k q. getD-drop p l k 
     each k q = let e : at + (p + k - at) ≡ p + k = omega arith in subst (λ (x : ℕ). getD l x 0 ≡ 0) e (h (p + k - at) (omega arith))
 
 module _ (file : List ℕ) (i : ℕ) where
-  abbrev word : ℕ → Bool
-  word p = eqb (field 8 (i * 32 + p) file) 0
+  abbrev start : ℕ
+  start = i * 32 + 8
 
-  words-zero : word 8 ≡ true → word 16 ≡ true → word 24 ≡ true → (j : ℕ) → j < 24 → textByte file i j ≡ 0
+  abbrev word : ℕ → Bool
+  word p = eqb (field 8 p file) 0
+
+  words-zero : word start ≡ true → word (start + 8) ≡ true → word (start + 16) ≡ true → (j : ℕ) → j < 24 → textByte file i j ≡ 0
   unfolding textByte
   words-zero a b c j l =
       ⊎-elim
-      (λ p. field-zero 8 (i * 32 + 8) (i * 32 + 8) file (eqb-true _ _ a) j (omega arith) (omega arith))
+      (λ p. field-zero 8 start start file (eqb-true _ _ a) j (omega arith) (omega arith))
       (λ p. ⊎-elim
-      (λ q. field-zero 8 (i * 32 + 16) (i * 32 + 8) file (eqb-true _ _ b) j (omega arith) (omega arith))
-      (λ q. field-zero 8 (i * 32 + 24) (i * 32 + 8) file (eqb-true _ _ c) j (omega arith) (omega arith))
+      (λ q. field-zero 8 (start + 8) start file (eqb-true _ _ b) j (omega arith) (omega arith))
+      (λ q. field-zero 8 (start + 16) start file (eqb-true _ _ c) j (omega arith) (omega arith))
       (lt-or-ge j 16))
       (lt-or-ge j 8)
 
-  zero-word : ((j : ℕ) → j < 24 → textByte file i j ≡ 0) → (p : ℕ) → 8 ≤ p → p ≤ 24 → word p ≡ true
+  zero-word : ((j : ℕ) → j < 24 → textByte file i j ≡ 0) → (p : ℕ) → start ≤ p → p ≤ start + 16 → word p ≡ true
   unfolding textByte
-  zero-word h p a b = eq-eqb _ _ (zero-field 8 (i * 32 + p) (i * 32 + 8) 24 file h (omega arith) (omega arith))
+  zero-word h p a b = eq-eqb _ _ (zero-field 8 p start 24 file h a (omega arith))
 
-  pub zero-words : (word 8 && word 16 && word 24) ≡ textIs file i 0
+  pub zero-words : (word start && word (start + 8) && word (start + 16)) ≡ textIs file i 0
   unfolding textIs
-  zero-words = same-truth _ _ to from
+  zero-words = same-test _ _ to from
     where
-      to : (word 8 && word 16 && word 24) ≡ true → none (λ j. wrongByte 0 j (textByte file i j)) 24 ≡ true
+      to : (word start && word (start + 8) && word (start + 16)) ≡ true → noneBelow (λ j. wrongByte 0 j (textByte file i j)) 24 ≡ true
       to e =
-          let p : (word 8 && word 16) ≡ true = and-left (word 8 && word 16) (word 24) e in
+          let p : (word start && word (start + 8)) ≡ true = and-left (word start && word (start + 8)) (word (start + 16)) e in
           let z : (j : ℕ) → j < 24 → textByte file i j ≡ 0 =
-          words-zero (and-left (word 8) (word 16) p) (and-right (word 8) (word 16) p) (and-right (word 8 && word 16) (word 24) e) in
-          none-is (λ j. wrongByte 0 j (textByte file i j)) 24 (λ j l. wrong-behind 0 j _ zero-le ∙ ap not (eq-eqb _ _ (z j l)))
+          words-zero (and-left (word start) (word (start + 8)) p) (and-right (word start) (word (start + 8)) p)
+          (and-right (word start && word (start + 8)) (word (start + 16)) e) in
+          none-is (λ j. wrongByte 0 j (textByte file i j)) 24 (λ j l. wrong-after 0 j _ zero-le ∙ ap not (eq-eqb _ _ (z j l)))
 
-      from : none (λ j. wrongByte 0 j (textByte file i j)) 24 ≡ true → (word 8 && word 16 && word 24) ≡ true
+      from : noneBelow (λ j. wrongByte 0 j (textByte file i j)) 24 ≡ true → (word start && word (start + 8) && word (start + 16)) ≡ true
       from e =
           let z : (j : ℕ) → j < 24 → textByte file i j ≡ 0 =
-          λ j l. eqb-true _ _ (not-false _ (sym (wrong-behind 0 j _ zero-le) ∙ none-at (λ j. wrongByte 0 j (textByte file i j)) 24 e j l)) in
-          ap₂ _&&_ (ap₂ _&&_ (zero-word z 8 (omega arith) (omega arith)) (zero-word z 16 (omega arith) (omega arith)))
-          (zero-word z 24 (omega arith) (omega arith))
+          λ j l. eqb-true _ _ (not-false _ (sym (wrong-after 0 j _ zero-le) ∙ none-at (λ j. wrongByte 0 j (textByte file i j)) 24 j e l)) in
+          ap₂ _&&_ (ap₂ _&&_ (zero-word z start (omega arith) (omega arith)) (zero-word z (start + 8) (omega arith) (omega arith)))
+          (zero-word z (start + 16) (omega arith) (omega arith))

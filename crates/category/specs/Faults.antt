@@ -5,9 +5,9 @@ use mathlib.Core.Bool.{Bool, false, not, cond, _&&_, _||_}
 use mathlib.Core.List.{List}
 use lib.ListN.{length}
 use lib.Dec.{eqb, leb, ltb}
-use Rattle.tables.specs.Lists.{first}
-use Rattle.tables.specs.Sizes.{sized}
-use Rattle.category.specs.Records.{count, actionAt, kindAt, lenderAt, textByte, spareZero, none, textLength, lends}
+use Rattle.tables.specs.Below.{noneBelow}
+use Rattle.tables.specs.Faults.{Fault, noFault, fault, orElse, scanFault}
+use Rattle.category.specs.Records.{recordSize, textRoom, actionAt, kindAt, lenderAt, textByte, spareZero, textLength, lends}
 use Rattle.category.specs.declared.Checked.{Checked}
 use Rattle.category.specs.declared.Checked.the-variants.{Good, Size, Record}
 
@@ -19,17 +19,21 @@ ascends file i = eqb i 0 || ltb (actionAt file (i - 1)) (actionAt file i)
 unfoldable pub goodByte : ℕ → Bool
 goodByte b = (leb 0x20 b && leb b 0x7E) || (leb 0xA0 b && leb b 0xFF)
 
--- byte j, which is b, is wrong in a text of `size` good bytes with zeros behind them
+-- byte j, which is b, is wrong in a text of `size` good bytes with zeros after them
 unfoldable pub wrongByte : (size j b : ℕ) → Bool
 wrongByte size j b = cond (ltb j size) (not (goodByte b)) (not (eqb b 0))
 
 -- the 24 bytes of the text of record i are `size` good bytes, then zeros
 unfoldable pub textIs : List ℕ → ℕ → ℕ → Bool
-textIs file i size = none (λ j. wrongByte size j (textByte file i j)) 24
+textIs file i size = noneBelow (λ j. wrongByte size j (textByte file i j)) textRoom
 
--- kind 0: the lender is 0, and the text is 1 to 24 good bytes, then zeros
+-- the text of record i is 1 to 24 good bytes, then zeros
+unfoldable pub textGood : List ℕ → ℕ → Bool
+textGood file i = leb 1 (textLength file i) && textIs file i (textLength file i)
+
+-- kind 0: the lender is 0, and the text is good
 unfoldable pub ownGood : List ℕ → ℕ → Bool
-ownGood file i = eqb (lenderAt file i) 0 && leb 1 (textLength file i) && textIs file i (textLength file i)
+ownGood file i = eqb (lenderAt file i) 0 && textGood file i
 
 -- kind 1: the text is all zero, and the lender is the action of a record of kind byte 0
 unfoldable pub borrowGood : List ℕ → ℕ → Bool
@@ -43,24 +47,20 @@ kindGood file i = cond (eqb (kindAt file i) 0) (ownGood file i) (cond (eqb (kind
 unfoldable pub recordBad : List ℕ → ℕ → Bool
 recordBad file i = not (ascends file i && spareZero file i && kindGood file i)
 
--- the lowest faulty record; the number of records where there is none
-unfoldable pub firstBad : List ℕ → ℕ
-firstBad file = first (recordBad file) (count file)
-
--- the check of one file, number and record: 9 where its length is not 0 to 2,000 records, 10 with the lowest faulty record, else 0
-unfoldable pub fileAnswer : List ℕ → ℕ × ℕ
-fileAnswer file = cond (sized 32 0 2000 (length file)) (cond (ltb (firstBad file) (count file)) (10, firstBad file) (0, 0)) (9, 0)
+-- the check of one file: 9 where its length is not 0 to 2,000 records, else 10 with the lowest faulty record
+unfoldable pub fileFault : List ℕ → Fault
+fileFault file = scanFault 9 10 recordSize 0 2000 (recordBad file) (length file)
 
 -- neither 9 nor 10
 unfoldable pub faultless : List ℕ → Bool
-faultless file = eqb (fileAnswer file .0) 0
+faultless file = eqb (fileFault file .number) 0
 
--- the check of both files: the translation's refusal comes before the house file's
-unfoldable pub checkAnswer : (translation house : List ℕ) → ℕ × ℕ
-checkAnswer translation house = cond (faultless translation) (fileAnswer house) (fileAnswer translation)
+-- the check of both files: the translation's fault comes before the house file's
+unfoldable pub checkFault : (translation house : List ℕ) → Fault
+checkFault translation house = orElse (fileFault translation) (fileFault house)
 
--- document 01's number and record for each answer of `check`
-unfoldable pub answerOf : Checked → ℕ × ℕ
-answerOf Good = (0, 0)
-answerOf Size = (9, 0)
-answerOf (Record r) = (10, r)
+-- document 01's number and record of each answer of `check`
+unfoldable pub checked : Checked → Fault
+checked Good = noFault
+checked Size = fault 9 0
+checked (Record r) = fault 10 r

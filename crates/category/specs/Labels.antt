@@ -5,18 +5,19 @@ use mathlib.Core.Bool.{Bool, cond, _&&_}
 use mathlib.Core.List.{List, []}
 use lib.ListN.{take, drop}
 use lib.Dec.{eqb, ltb}
+use Rattle.tables.specs.Below.{someBelow}
 use Rattle.tables.specs.Lists.{first}
-use Rattle.category.specs.Records.{count, kindAt, lenderAt, some, textLength, hasAction, lendsAt}
+use Rattle.category.specs.Records.{recordSize, textStart, count, kindAt, lenderAt, textLength, hasAction, lendsAt}
 use Rattle.category.specs.Faults.{faultless}
 use Rattle.category.specs.declared.LabelPlace.{LabelPlace}
 
 -- the text of record i, padding left off
 unfoldable pub ownText : List ℕ → ℕ → List ℕ
-ownText file i = take (textLength file i) (drop (i * 32 + 8) file)
+ownText file i = take (textLength file i) (drop (i * recordSize + textStart) file)
 
 -- some record of the file has the action a
 unfoldable pub has : List ℕ → ℕ → Bool
-has file a = some (hasAction file a) (count file)
+has file a = someBelow (hasAction file a) (count file)
 
 -- the lowest record of the action a; the number of records where there is none
 unfoldable pub recordOf : List ℕ → ℕ → ℕ
@@ -36,7 +37,7 @@ sourceOf file a = cond (has file a) (sourceAt file (recordOf file a)) (count fil
 
 -- where that text starts in the file: 0 where there is none
 unfoldable pub textOffset : List ℕ → ℕ → ℕ
-textOffset file a = cond (ltb (sourceOf file a) (count file)) (sourceOf file a * 32 + 8) 0
+textOffset file a = cond (ltb (sourceOf file a) (count file)) (sourceOf file a * recordSize + textStart) 0
 
 -- its length: 0 where there is none
 unfoldable pub textSize : List ℕ → ℕ → ℕ

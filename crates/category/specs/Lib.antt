@@ -1,7 +1,6 @@
 -- The definitions that the contracts of `category` cite.
 pub mod Records
 pub mod Faults
-pub mod Texts
 pub mod Labels
-pub mod Search
 pub mod Loader
+pub mod Serving

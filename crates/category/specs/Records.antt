@@ -4,45 +4,50 @@ use Prim.Native.Nat.{ℕ, _+_, _*_, _/_}
 use mathlib.Core.Bool.{Bool, _&&_}
 use mathlib.Core.List.{List}
 use lib.ListN.{length, getD}
-use lib.Dec.{eqb, ltb}
+use lib.Dec.{eqb}
 use Rattle.tables.specs.Bytes.{field}
+use Rattle.tables.specs.Below.{someBelow}
 use Rattle.tables.specs.Lists.{first}
+
+-- the bytes of a record
+abbrev pub recordSize : ℕ
+recordSize = 32
+
+-- where its text starts
+abbrev pub textStart : ℕ
+textStart = 8
+
+-- the bytes that its text has, with the padding
+abbrev pub textRoom : ℕ
+textRoom = 24
 
 -- the number of whole records
 abbrev pub count : List ℕ → ℕ
-count file = length file / 32
+count file = length file / recordSize
 
 -- the action of record i
 unfoldable pub actionAt : List ℕ → ℕ → ℕ
-actionAt file i = field 2 (i * 32) file
+actionAt file i = field 2 (i * recordSize) file
 
 -- its kind byte
 unfoldable pub kindAt : List ℕ → ℕ → ℕ
-kindAt file i = getD file (i * 32 + 2) 0
+kindAt file i = getD file (i * recordSize + 2) 0
 
 -- its lender
 unfoldable pub lenderAt : List ℕ → ℕ → ℕ
-lenderAt file i = field 2 (i * 32 + 4) file
+lenderAt file i = field 2 (i * recordSize + 4) file
 
 -- byte j of the text of record i
 unfoldable pub textByte : List ℕ → ℕ → ℕ → ℕ
-textByte file i j = getD file (i * 32 + 8 + j) 0
+textByte file i j = getD file (i * recordSize + textStart + j) 0
 
 -- the three bytes of record i that have no use are zero
 unfoldable pub spareZero : List ℕ → ℕ → Bool
-spareZero file i = eqb (getD file (i * 32 + 3) 0) 0 && eqb (field 2 (i * 32 + 6) file) 0
-
--- no number below n passes the test f
-unfoldable pub none : (ℕ → Bool) → ℕ → Bool
-none f n = eqb (first f n) n
-
--- some number below n passes the test f
-unfoldable pub some : (ℕ → Bool) → ℕ → Bool
-some f n = ltb (first f n) n
+spareZero file i = eqb (getD file (i * recordSize + 3) 0) 0 && eqb (field 2 (i * recordSize + 6) file) 0
 
 -- how many bytes of the text of record i stand before the first zero byte: 24 where there is none
 unfoldable pub textLength : List ℕ → ℕ → ℕ
-textLength file i = first (λ j. eqb (textByte file i j) 0) 24
+textLength file i = first (λ j. eqb (textByte file i j) 0) textRoom
 
 -- record i has the action a
 unfoldable pub hasAction : List ℕ → ℕ → ℕ → Bool
@@ -54,4 +59,4 @@ lendsAt file a i = hasAction file a i && eqb (kindAt file i) 0
 
 -- some record of the file, faulty or not, lends the text of the action a
 unfoldable pub lends : List ℕ → ℕ → Bool
-lends file a = some (lendsAt file a) (count file)
+lends file a = someBelow (lendsAt file a) (count file)

@@ -2,17 +2,33 @@
 ghost use mathlib.Core.Path.{_≡_};
 ghost use mathlib.Core.Bool.{_&&_};
 ghost use Prim.Native.Nat.{_+_, _≤_, _<_};
+ghost use Rattle.tables.specs.Lists as lists;
 ghost use Rattle.category.specs.Records as records;
 ghost use Rattle.category.specs.Faults as faults;
-ghost use Rattle.category.specs.Texts as texts;
 ghost use Rattle.category.specs.Labels as labels;
-ghost use Rattle.category.specs.Search as search;
+ghost use Rattle.category.specs.Serving as serving;
+use tables::RecordCount;
 
-// The answer of a check: document 01's 9 is Size, its 10 is Record, with the number of the record.
+// The bytes of a record.
+const RECORD: usize = 32;
+
+// Where its text starts.
+const TEXT_START: usize = 8;
+
+// The bytes that its text has, with the padding.
+const TEXT_ROOM: usize = 24;
+
+// The answer of a check. `checked` of specs/ has document 01's numbers.
 pub enum Checked {
     Good,
     Size,
     Record(usize),
+}
+
+// An answer in document 01's numbers: 0 where the files are good, 9, or 10 with the record.
+pub struct Numbers {
+    pub number: u32,
+    pub place: u64,
 }
 
 // Where a label stands: file 0 is the translation and 1 the house file; all zero for no label.
@@ -35,7 +51,7 @@ fn action_at(file: &[u8], i: usize) -> u16
     requires { ⌜ i < records.count (now file) ⌝ }
     ensures { λ r. ⌜ r ≡ records.actionAt (now (file .entry)) i ⌝ }
 {
-    tables::u16_at(file, i * 32)
+    tables::u16_at(file, i * RECORD)
 }
 
 // Its kind byte.
@@ -43,7 +59,7 @@ fn kind_at(file: &[u8], i: usize) -> u8
     requires { ⌜ i < records.count (now file) ⌝ }
     ensures { λ r. ⌜ r ≡ records.kindAt (now (file .entry)) i ⌝ }
 {
-    file[i * 32 + 2]
+    file[i * RECORD + 2]
 }
 
 // Its lender.
@@ -51,15 +67,15 @@ fn lender_at(file: &[u8], i: usize) -> u16
     requires { ⌜ i < records.count (now file) ⌝ }
     ensures { λ r. ⌜ r ≡ records.lenderAt (now (file .entry)) i ⌝ }
 {
-    tables::u16_at(file, i * 32 + 4)
+    tables::u16_at(file, i * RECORD + 4)
 }
 
 // A byte of its text.
 fn text_byte(file: &[u8], i: usize, j: usize) -> u8
-    requires { ⌜ (i < records.count (now file)) × (j < 24) ⌝ }
+    requires { ⌜ (i < records.count (now file)) × (j < records.textRoom) ⌝ }
     ensures { λ r. ⌜ r ≡ records.textByte (now (file .entry)) i j ⌝ }
 {
-    file[i * 32 + 8 + j]
+    file[i * RECORD + TEXT_START + j]
 }
 
 // Whether its bytes that have no use are zero.
@@ -67,8 +83,8 @@ fn spare_zero(file: &[u8], i: usize) -> bool
     requires { ⌜ i < records.count (now file) ⌝ }
     ensures { λ r. ⌜ r ≡ records.spareZero (now (file .entry)) i ⌝ }
 {
-    let spare = file[i * 32 + 3];
-    let pair = tables::u16_at(file, i * 32 + 6);
+    let spare = file[i * RECORD + 3];
+    let pair = tables::u16_at(file, i * RECORD + 6);
     (spare == 0) & (pair == 0)
 }
 
@@ -93,23 +109,23 @@ fn lends_at(file: &[u8], action: u16, i: usize) -> bool
 // How many bytes of a record's text stand before the first zero byte.
 fn text_length(file: &[u8], i: usize) -> usize
     requires { ⌜ i < records.count (now file) ⌝ }
-    ensures { λ r. ⌜ (r ≡ records.textLength (now (file .entry)) i) × (r ≤ 24) ⌝ }
+    ensures { λ r. ⌜ (r ≡ records.textLength (now (file .entry)) i) × (r ≤ records.textRoom) ⌝ }
 {
     let mut j: usize = 0;
-    while j < 24 {
+    while j < TEXT_ROOM {
         if text_byte(file, i, j) == 0 {
             return j;
         }
         j += 1;
     }
-    24
+    TEXT_ROOM
 }
 
 // The lowest record of an action, or the number of records.
 fn find(file: &[u8], action: u16) -> usize
     ensures { λ r. ⌜ r ≡ labels.recordOf (now (file .entry)) action ⌝ }
 {
-    let n = file.len() / 32;
+    let n = file.len() / RECORD;
     let mut i: usize = 0;
     while i < n {
         if has_action(file, action, i) {
@@ -123,9 +139,9 @@ fn find(file: &[u8], action: u16) -> usize
 // The lowest record from a number on that lends the text of an action, or the number of records.
 fn find_lender(file: &[u8], action: u16, from: usize) -> usize
     requires { ⌜ from ≤ records.count (now file) ⌝ }
-    ensures { λ r. ⌜ search.LowestFrom (records.lendsAt (now (file .entry)) action) from (records.count (now (file .entry))) r ⌝ }
+    ensures { λ r. ⌜ serving.LowestFrom (records.lendsAt (now (file .entry)) action) from (records.count (now (file .entry))) r ⌝ }
 {
-    let n = file.len() / 32;
+    let n = file.len() / RECORD;
     let mut i = from;
     while i < n {
         if lends_at(file, action, i) {
@@ -147,11 +163,11 @@ fn ascends(file: &[u8], i: usize) -> bool
     action_at(file, i - 1) < action_at(file, i)
 }
 
-// How many records at the start of the file have strictly ascending actions.
-fn ascending(file: &[u8]) -> usize
-    ensures { λ r. ⌜ r ≡ search.ascending (now (file .entry)) ⌝ }
+// How many records at the start of the file have strictly ascending actions: the length of the ascending prefix.
+fn ascending_prefix(file: &[u8]) -> usize
+    ensures { λ r. ⌜ r ≡ serving.ascendingPrefix (now (file .entry)) ⌝ }
 {
-    let n = file.len() / 32;
+    let n = file.len() / RECORD;
     let mut i: usize = 0;
     while i < n {
         if !ascends(file, i) {
@@ -162,13 +178,13 @@ fn ascending(file: &[u8]) -> usize
     n
 }
 
-// Among the records with ascending actions, the lowest whose action is not below the given one.
-fn lower_bound(file: &[u8], action: u16, sorted: usize) -> usize
-    requires { ⌜ sorted ≡ search.ascending (now file) ⌝ }
-    ensures { λ r. ⌜ search.LowerBound (now (file .entry)) action sorted r ⌝ }
+// Within the ascending prefix, the lowest record whose action is not below the given one.
+fn lower_bound(file: &[u8], action: u16, prefix: usize) -> usize
+    requires { ⌜ prefix ≡ serving.ascendingPrefix (now file) ⌝ }
+    ensures { λ r. ⌜ serving.LowerBound (now (file .entry)) action prefix r ⌝ }
 {
     let mut low: usize = 0;
-    let mut high = sorted;
+    let mut high = prefix;
     while low < high {
         let middle = (low + high) / 2;
         if action_at(file, middle) < action {
@@ -180,18 +196,18 @@ fn lower_bound(file: &[u8], action: u16, sorted: usize) -> usize
     low
 }
 
-// Whether some record lends the text of an action: a binary search where the actions ascend, then a scan of the records behind.
-fn lends(file: &[u8], action: u16, sorted: usize) -> bool
-    requires { ⌜ sorted ≡ search.ascending (now file) ⌝ }
+// Whether some record lends the text of an action: a binary search in the ascending prefix, then a scan of the records after it.
+fn lends(file: &[u8], action: u16, prefix: usize) -> bool
+    requires { ⌜ prefix ≡ serving.ascendingPrefix (now file) ⌝ }
     ensures { λ r. ⌜ r ≡ records.lends (now (file .entry)) action ⌝ }
 {
-    let at = lower_bound(file, action, sorted);
-    if at < sorted {
+    let at = lower_bound(file, action, prefix);
+    if at < prefix {
         if lends_at(file, action, at) {
             return true;
         }
     }
-    find_lender(file, action, sorted) < file.len() / 32
+    find_lender(file, action, prefix) < file.len() / RECORD
 }
 
 // ---- faults
@@ -203,18 +219,18 @@ fn good_byte(b: u8) -> bool
     ((0x20 <= b) & (b <= 0x7E)) | (0xA0 <= b)
 }
 
-// Whether a byte may stand behind another in a text: zero, or a good byte behind one that is not zero.
+// Whether a byte may stand after another in a text: zero, or a good byte after one that is not zero.
 fn follows(before: u8, b: u8) -> bool
-    ensures { λ r. ⌜ r ≡ texts.follows before b ⌝ }
+    ensures { λ r. ⌜ r ≡ serving.follows before b ⌝ }
 {
     (b == 0) | ((before != 0) & good_byte(b))
 }
 
-// Whether each of the 16 bytes behind byte `from` of a record's text may stand behind the byte before it. The loop has no early exit,
+// Whether each of the 16 bytes after byte `from` of a record's text may stand after the byte before it. The loop has no early exit,
 // so that it compiles to a few vector instructions.
 fn run_follows(file: &[u8], i: usize, from: usize) -> bool
     requires { ⌜ (i < records.count (now file)) × (from ≤ 7) ⌝ }
-    ensures { λ r. ⌜ r ≡ texts.runFollows (now (file .entry)) i from ⌝ }
+    ensures { λ r. ⌜ r ≡ serving.runFollows (now (file .entry)) i from ⌝ }
 {
     let mut ok = true;
     let mut j: usize = 0;
@@ -230,7 +246,7 @@ fn run_follows(file: &[u8], i: usize, from: usize) -> bool
 // Whether a record's text is 1 to 24 good bytes, then zeros. The two runs, of bytes 1 to 16 and 8 to 23, overlap.
 fn text_good(file: &[u8], i: usize) -> bool
     requires { ⌜ i < records.count (now file) ⌝ }
-    ensures { λ r. ⌜ r ≡ texts.textGood (now (file .entry)) i ⌝ }
+    ensures { λ r. ⌜ r ≡ faults.textGood (now (file .entry)) i ⌝ }
 {
     good_byte(text_byte(file, i, 0)) & run_follows(file, i, 0) & run_follows(file, i, 7)
 }
@@ -240,9 +256,10 @@ fn text_zero(file: &[u8], i: usize) -> bool
     requires { ⌜ i < records.count (now file) ⌝ }
     ensures { λ r. ⌜ r ≡ faults.textIs (now (file .entry)) i 0 ⌝ }
 {
-    let low = tables::u64_at(file, i * 32 + 8);
-    let middle = tables::u64_at(file, i * 32 + 16);
-    let high = tables::u64_at(file, i * 32 + 24);
+    let at = i * RECORD + TEXT_START;
+    let low = tables::u64_at(file, at);
+    let middle = tables::u64_at(file, at + 8);
+    let high = tables::u64_at(file, at + 16);
     (low == 0) & (middle == 0) & (high == 0)
 }
 
@@ -255,16 +272,16 @@ fn own_good(file: &[u8], i: usize) -> bool
 }
 
 // Whether a record is good as one with a borrowed text.
-fn borrow_good(file: &[u8], i: usize, sorted: usize) -> bool
-    requires { ⌜ (i < records.count (now file)) × (sorted ≡ search.ascending (now file)) ⌝ }
+fn borrow_good(file: &[u8], i: usize, prefix: usize) -> bool
+    requires { ⌜ (i < records.count (now file)) × (prefix ≡ serving.ascendingPrefix (now file)) ⌝ }
     ensures { λ r. ⌜ r ≡ faults.borrowGood (now (file .entry)) i ⌝ }
 {
-    text_zero(file, i) & lends(file, lender_at(file, i), sorted)
+    text_zero(file, i) & lends(file, lender_at(file, i), prefix)
 }
 
 // Whether a record is good as its kind asks.
-fn kind_good(file: &[u8], i: usize, sorted: usize) -> bool
-    requires { ⌜ (i < records.count (now file)) × (sorted ≡ search.ascending (now file)) ⌝ }
+fn kind_good(file: &[u8], i: usize, prefix: usize) -> bool
+    requires { ⌜ (i < records.count (now file)) × (prefix ≡ serving.ascendingPrefix (now file)) ⌝ }
     ensures { λ r. ⌜ r ≡ faults.kindGood (now (file .entry)) i ⌝ }
 {
     let kind = kind_at(file, i);
@@ -272,27 +289,27 @@ fn kind_good(file: &[u8], i: usize, sorted: usize) -> bool
         return own_good(file, i);
     }
     if kind == 1 {
-        return borrow_good(file, i, sorted);
+        return borrow_good(file, i, prefix);
     }
     false
 }
 
-// Whether a record is faulty, of those at the start of the file with ascending actions.
-fn record_bad(file: &[u8], i: usize, sorted: usize) -> bool
-    requires { ⌜ (i < sorted) × (sorted ≡ search.ascending (now file)) ⌝ }
+// Whether a record of the ascending prefix is faulty.
+fn record_bad(file: &[u8], i: usize, prefix: usize) -> bool
+    requires { ⌜ (i < prefix) × (prefix ≡ serving.ascendingPrefix (now file)) ⌝ }
     ensures { λ r. ⌜ r ≡ faults.recordBad (now (file .entry)) i ⌝ }
 {
-    !(spare_zero(file, i) & kind_good(file, i, sorted))
+    !(spare_zero(file, i) & kind_good(file, i, prefix))
 }
 
-// The lowest faulty record, or the number of records. The first record whose action does not ascend is faulty.
+// The lowest faulty record, or the number of records. The record after the ascending prefix is faulty.
 fn first_bad(file: &[u8]) -> usize
-    ensures { λ r. ⌜ r ≡ faults.firstBad (now (file .entry)) ⌝ }
+    ensures { λ r. ⌜ r ≡ lists.first (faults.recordBad (now (file .entry))) (records.count (now (file .entry))) ⌝ }
 {
-    let sorted = ascending(file);
+    let prefix = ascending_prefix(file);
     let mut i: usize = 0;
-    while i < sorted {
-        if record_bad(file, i, sorted) {
+    while i < prefix {
+        if record_bad(file, i, prefix) {
             return i;
         }
         i += 1;
@@ -302,25 +319,21 @@ fn first_bad(file: &[u8]) -> usize
 
 // The check of one file.
 fn check_file(file: &[u8]) -> Checked
-    ensures { λ r. ⌜ faults.answerOf r ≡ faults.fileAnswer (now (file .entry)) ⌝ }
+    ensures { λ r. ⌜ faults.checked r ≡ faults.fileFault (now (file .entry)) ⌝ }
 {
-    let size = tables::records(file.len(), 32, 0, 2000);
-    match size {
-        tables::RecordCount::Refused => Checked::Size,
-        tables::RecordCount::Whole(n) => {
-            let bad = first_bad(file);
-            if bad < n {
-                Checked::Record(bad)
-            } else {
-                Checked::Good
-            }
-        }
+    let RecordCount::Whole(n) = tables::records(file.len(), RECORD, 0, 2000) else {
+        return Checked::Size;
+    };
+    let bad = first_bad(file);
+    if bad < n {
+        return Checked::Record(bad);
     }
+    Checked::Good
 }
 
 // The check of both files: the translation's refusal comes before the house file's.
 pub fn check(translation: &[u8], house: &[u8]) -> Checked
-    ensures { λ r. ⌜ faults.answerOf r ≡ faults.checkAnswer (now (translation .entry)) (now (house .entry)) ⌝ }
+    ensures { λ r. ⌜ faults.checked r ≡ faults.checkFault (now (translation .entry)) (now (house .entry)) ⌝ }
 {
     let own = check_file(translation);
     match own {
@@ -330,13 +343,33 @@ pub fn check(translation: &[u8], house: &[u8]) -> Checked
     }
 }
 
+// A check's answer in document 01's numbers.
+pub fn check_numbers(answer: Checked) -> Numbers
+    ensures { λ r. ⌜ (r .number ≡ faults.checked answer .number) × (r .place ≡ faults.checked answer .place) ⌝ }
+{
+    match answer {
+        Checked::Good => Numbers {
+            number: 0,
+            place: 0,
+        },
+        Checked::Size => Numbers {
+            number: 9,
+            place: 0,
+        },
+        Checked::Record(record) => Numbers {
+            number: 10,
+            place: record as u64,
+        },
+    }
+}
+
 // ---- labels
 
 // The record that has the text of an action, or the number of records.
 fn source(file: &[u8], action: u16) -> usize
     ensures { λ r. ⌜ r ≡ labels.sourceOf (now (file .entry)) action ⌝ }
 {
-    let n = file.len() / 32;
+    let n = file.len() / RECORD;
     let i = find(file, action);
     if n <= i {
         return n;
@@ -352,10 +385,10 @@ fn part(file: &[u8], action: u16) -> TextPart
     ensures { λ r. ⌜ (r .offset ≡ labels.textOffset (now (file .entry)) action) × (r .size ≡ labels.textSize (now (file .entry)) action) ⌝ }
 {
     let i = source(file, action);
-    if i < file.len() / 32 {
+    if i < file.len() / RECORD {
         let size = text_length(file, i);
         return TextPart {
-            offset: i * 32 + 8,
+            offset: i * RECORD + TEXT_START,
             size,
         };
     }
@@ -371,13 +404,6 @@ pub fn text<'a>(file: &'a [u8], action: u16) -> &'a [u8]
     let start = p.offset;
     let size = p.size;
     &file[start..start + size]
-}
-
-// Whether some record of a file has an action.
-fn has(file: &[u8], action: u16) -> bool
-    ensures { λ r. ⌜ r ≡ labels.has (now (file .entry)) action ⌝ }
-{
-    find(file, action) < file.len() / 32
 }
 
 // Whether neither file is faulty.
@@ -407,23 +433,21 @@ fn place_in(file: &[u8], number: u32, action: u16) -> LabelPlace
     }
 }
 
-// The place of an action's label: all zero where a file is faulty or there is no record.
+// The place of an action's label: all zero where a file is faulty or there is no record. In a file that is not faulty, an action has an
+// empty text only where it has no record.
 pub fn place(translation: &[u8], house: &[u8], action: u16) -> LabelPlace
     ensures place { λ r. ⌜ r ≡ labels.placeOf (now (translation .entry)) (now (house .entry)) action ⌝ }
     ensures bytes { λ r. ⌜ labels.bytesAt (now (translation .entry)) (now (house .entry)) r ≡ labels.labelOf (now (translation .entry)) (now (house .entry)) action ⌝ }
 {
-    if !both_good(translation, house) {
-        return LabelPlace {
-            file: 0,
-            offset: 0,
-            length: 0,
-        };
-    }
-    if has(translation, action) {
-        return place_in(translation, 0, action);
-    }
-    if has(house, action) {
-        return place_in(house, 1, action);
+    if both_good(translation, house) {
+        let translated = place_in(translation, 0, action);
+        if 0 < translated.length {
+            return translated;
+        }
+        let untranslated = place_in(house, 1, action);
+        if 0 < untranslated.length {
+            return untranslated;
+        }
     }
     LabelPlace {
         file: 0,
@@ -437,11 +461,15 @@ pub fn label<'a>(translation: &'a [u8], house: &'a [u8], action: u16) -> &'a [u8
     ensures bytes { λ r. ⌜ now r ≡ labels.labelOf (now (translation .entry)) (now (house .entry)) action ⌝ }
     ensures part { λ r. let p = labels.placeOf (now (translation .entry)) (now (house .entry)) action in ⌜ (r .ptr .0 ≡ labels.fileOf (p .file) (translation .entry .ptr .0) (house .entry .ptr .0)) × (r .ptr .1 ≡ p .offset + labels.fileOf (p .file) (translation .entry .ptr .1) (house .entry .ptr .1)) ⌝ }
 {
-    let p = place(translation, house, action);
-    let start = p.offset as usize;
-    let size = p.length as usize;
-    if p.file == 0 {
-        return &translation[start..start + size];
+    if both_good(translation, house) {
+        let translated = text(translation, action);
+        if 0 < translated.len() {
+            return translated;
+        }
+        let untranslated = text(house, action);
+        if 0 < untranslated.len() {
+            return untranslated;
+        }
     }
-    &house[start..start + size]
+    &translation[..0]
 }

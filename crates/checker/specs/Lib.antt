@@ -1,3 +1,3 @@
--- The definitions that the contract of the tree check cites.
+-- The definitions that the contract of the tree check cites: its answer, and what an accepted tree shows.
 pub mod Outcomes
 pub mod Demand

@@ -5,37 +5,17 @@ ghost use Rattle.checker.specs.Outcomes as outcomes;
 use crate::InputFault;
 use net::Refusal;
 use nodes::Ask;
+use nodes::read;
 use tables::RecordCount;
 
 // A refusal of the net's table by its number and record.
 fn refused(why: Refusal) -> InputFault
     ensures { λ r. ⌜ outcomes.input r ≡ net.refusal why ⌝ }
 {
-    match why {
-        Refusal::Places => InputFault {
-            number: 1,
-            place: 0,
-        },
-        Refusal::Size => InputFault {
-            number: 2,
-            place: 0,
-        },
-        Refusal::Record(at) => InputFault {
-            number: 3,
-            place: at,
-        },
-        Refusal::Marking => InputFault {
-            number: 7,
-            place: 0,
-        },
-        Refusal::Absent => InputFault {
-            number: 8,
-            place: 0,
-        },
-        Refusal::Disabled => InputFault {
-            number: 41,
-            place: 0,
-        },
+    let found = net::refusal_numbers(why);
+    InputFault {
+        number: found.number as u8,
+        place: found.place as usize,
     }
 }
 
@@ -43,13 +23,15 @@ fn refused(why: Refusal) -> InputFault
 fn check_last(a: Ask, formulas: &[u8], tree: &[u8]) -> InputFault
     ensures { λ r. ⌜ outcomes.input r ≡ outcomes.lastFault a (now (formulas .entry)) (now (tree .entry)) ⌝ }
 {
-    let RecordCount::Whole(_) = tables::records(tree.len(), 40, 1, 65536) else {
+    let RecordCount::Whole(_) = tables::records(tree.len(), read::NODE, 1, 65536) else {
         return InputFault {
             number: 6,
             place: 0,
         };
     };
-    if bitset::within(a.places as u32, a.marking) & ((a.formula as usize) < formulas.len() / 8) {
+    if bitset::within(a.places as u32, a.marking)
+        & ((a.formula as usize) < formulas.len() / pctl::RECORD)
+    {
         return InputFault {
             number: 0,
             place: 0,
@@ -82,13 +64,13 @@ fn check_rest(a: Ask, formulas: &[u8], tree: &[u8]) -> InputFault
 pub fn check_input(ask: &[u8], net: &[u8], formulas: &[u8], tree: &[u8]) -> InputFault
     ensures { λ r. ⌜ outcomes.input r ≡ outcomes.inputFault (now (ask .entry)) (now (net .entry)) (now (formulas .entry)) (now (tree .entry)) ⌝ }
 {
-    if ask.len() != 12 {
+    if ask.len() != read::ASK {
         return InputFault {
             number: 1,
             place: 0,
         };
     }
-    let a = nodes::read::ask_of(ask);
+    let a = read::ask_of(ask);
     if !((1 <= a.places) & (a.places <= 64) & (a.side <= 1)) {
         return InputFault {
             number: 1,

@@ -6,10 +6,10 @@ ghost use Rattle.net.specs.Answer as firings;
 ghost use Rattle.category.specs.Faults as categories;
 ghost use Rattle.category.specs.Labels as labels;
 ghost use Rattle.checker.specs.Outcomes as outcomes;
-use category::Checked;
+ghost use Rattle.checker.specs.Demand as demand;
 use checker::Verdict;
 
-// An answer in document 01's numbers: 0 where granted; the record, the node or the number of nodes.
+// The tree check's answer in document 01's numbers: 0 where granted; the record, the node or the number of nodes.
 struct Numbers {
     number: u32,
     place: u64,
@@ -35,26 +35,6 @@ fn verdict_numbers(v: Verdict) -> Numbers
     }
 }
 
-// The category check's number and record.
-fn category_numbers(answer: Checked) -> Numbers
-    ensures { λ r. ⌜ (r .number ≡ categories.answerOf answer .0) × (r .place ≡ categories.answerOf answer .1) ⌝ }
-{
-    match answer {
-        Checked::Good => Numbers {
-            number: 0,
-            place: 0,
-        },
-        Checked::Size => Numbers {
-            number: 9,
-            place: 0,
-        },
-        Checked::Record(record) => Numbers {
-            number: 10,
-            place: record as u64,
-        },
-    }
-}
-
 // Checks a tree: 0 with the number of nodes, a refusal with its record, or a fault with its node. At 0 the ask's claim is true.
 #[no_mangle]
 pub extern "C" fn desk_check(
@@ -65,7 +45,7 @@ pub extern "C" fn desk_check(
     place: &mut u64,
 ) -> u32
     ensures answer { λ r. let o = outcomes.checkOutcome (now (ask .entry)) (now (net .entry)) (now (formulas .entry)) (now (tree .entry)) in ⌜ (r ≡ o .number) × (now (place .exit) ≡ o .place) ⌝ }
-    ensures claim { λ r. ⌜ (r ≡ 0 → outcomes.AskClaim (now (ask .entry)) (now (net .entry)) (now (formulas .entry))) ⌝ }
+    ensures claim { λ r. ⌜ (r ≡ 0 → demand.AskClaim (now (ask .entry)) (now (net .entry)) (now (formulas .entry))) ⌝ }
 {
     let outcome = verdict_numbers(checker::check(ask, net, formulas, tree));
     *place = outcome.place;
@@ -93,9 +73,9 @@ pub extern "C" fn desk_fire(
 // Checks the two category files: 0, or 9 or 10 with the record.
 #[no_mangle]
 pub extern "C" fn desk_categories(translation: &[u8], house: &[u8], record: &mut u64) -> u32
-    ensures { λ r. let a = categories.checkAnswer (now (translation .entry)) (now (house .entry)) in ⌜ (r ≡ a .0) × (now («record» .exit) ≡ a .1) ⌝ }
+    ensures { λ r. let f = categories.checkFault (now (translation .entry)) (now (house .entry)) in ⌜ (r ≡ f .number) × (now («record» .exit) ≡ f .place) ⌝ }
 {
-    let found = category_numbers(category::check(translation, house));
+    let found = category::check_numbers(category::check(translation, house));
     *record = found.place;
     found.number
 }

@@ -1,3 +1,3 @@
 -- The faults of a node.
 pub mod Faults
-pub mod Parts
+pub mod Serving

@@ -44,7 +44,7 @@ unreadLine file = unreadNamed (nameOf file)
 
 -- ---- the buffer
 
--- a call that writes vs into a buffer of 40 bytes from an index on, and answers the index behind it: the bytes there are vs, and all others stay
+-- a call that writes vs into a buffer of 40 bytes from an index on, and answers the index after it: the bytes there are vs, and all others stay
 pub record Put (before after : List ℕ) (at : ℕ) (vs : List ℕ) (r : ℕ) : Type 0 where
   pub next : r ≡ at + length vs
   pub room : r ≤ 40

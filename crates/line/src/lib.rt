@@ -14,7 +14,7 @@ pub enum Input {
     Tree,
 }
 
-// Copies a word into the line from an index on, and answers the index behind it.
+// Copies a word into the line from an index on, and answers the index after it.
 fn put_word(line: &mut [u8; 40], at: usize, word: &[u8]) -> usize
     requires { ⌜ at + length (now word) ≤ 40 ⌝ }
     ensures { λ r. ⌜ lines.Put (now (line .entry)) (now (line .exit)) at (now (word .entry)) r ⌝ }
@@ -27,7 +27,7 @@ fn put_word(line: &mut [u8; 40], at: usize, word: &[u8]) -> usize
     at + i
 }
 
-// Writes a number in decimal into the line from an index on, and answers the index behind it.
+// Writes a number in decimal into the line from an index on, and answers the index after it.
 fn put_number(line: &mut [u8; 40], at: usize, n: usize) -> usize
     requires { ⌜ at + length (text.decimal n) ≤ 40 ⌝ }
     ensures { λ r. ⌜ lines.Put (now (line .entry)) (now (line .exit)) at (text.decimal n) r ⌝ }

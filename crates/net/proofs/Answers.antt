@@ -1,24 +1,22 @@
 -- The answers of loading and of the single firing: what each way through the code has found fixes the answer. Assumes nothing.
-use mathlib.Core.Path.{_≡_, refl, sym, ap, ap₂, _∙_, subst}
-use mathlib.Core.Bool.{Bool, true, false, cond, not, _&&_}
+use mathlib.Core.Path.{_≡_, refl, sym, ap, ap₂, _∙_}
+use mathlib.Core.Bool.{Bool, true, false, cond, not}
 use mathlib.Core.List.{List}
-use Prim.Native.Nat.{ℕ, _+_, _*_, _/_, _≤_, _<_}
+use Prim.Native.Nat.{ℕ, _≤_, _<_}
 use native.Mathlib.Omega.{arith}
-use lib.ListN.{length, getD}
-use lib.Dec.{eqb, ltb}
+use lib.ListN.{length}
+use lib.Dec.{eqb}
 use borrow.Author.Tests.{lt-ltb, le-ltb, not-true, not-false, eqb-true, eqb-false}
 use Rattle.bitset.specs.Sets.{within}
 use Rattle.tables.proofs.Counts.{sized-most}
 use Rattle.tables.proofs.Scans.{scan-passed}
 use Rattle.tables.proofs.Entries.{getD-upTo}
-use Rattle.net.specs.declared.Net.{Net}
 use Rattle.net.specs.declared.Refusal.{Refusal}
 use Rattle.net.specs.declared.Refusal.the-variants.{Places, Size, Record, Marking, Absent, Disabled}
-use Rattle.net.specs.declared.Checked.{Checked}
 use Rattle.net.specs.declared.Checked.the-variants.{Good, Refused as Bad}
 use Rattle.net.specs.Step.{preOf, postOf, enabledBy, firedBy, enabled, fired}
 use Rattle.net.specs.Table.{preAt, postAt, transitions, netOf, placesGood, tableSized, recordBad}
-use Rattle.net.specs.Answer.{Fault, noFault, fault, refusal, checked, orElse, tableFault, loadFault, Answer, refuse, grant, stepAnswer, firing}
+use Rattle.net.specs.Answer.{Fault, noFault, fault, refusal, checked, orElse, tableFault, loadFault, refuse, grant, stepAnswer, firing}
 use Rattle.net.proofs.Loops.{enabled-in}
 
 -- ---- 1 and 7

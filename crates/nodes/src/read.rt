@@ -7,12 +7,14 @@ use crate::Ask;
 use crate::Node;
 use tableau::Sequent;
 
-// The bytes of a node.
+// The bytes of the ask and of a node.
+pub const ASK: usize = 12;
+
 pub const NODE: usize = 40;
 
-// The ask of 12 bytes.
+// The ask.
 pub fn ask_of(ask: &[u8]) -> Ask
-    requires { ⌜ 12 ≤ length (now ask) ⌝ }
+    requires { ⌜ nodes.askSize ≤ length (now ask) ⌝ }
     ensures { λ r. ⌜ r ≡ nodes.askOf (now (ask .entry)) ⌝ }
 {
     let marking = tables::u64_at(ask, 0);
@@ -27,7 +29,7 @@ pub fn ask_of(ask: &[u8]) -> Ask
 
 // The sequent of node k.
 pub fn sequent_at(tree: &[u8], k: usize) -> Sequent
-    requires { ⌜ k * 40 + 40 ≤ length (now tree) ⌝ }
+    requires { ⌜ k * nodes.nodeSize + nodes.nodeSize ≤ length (now tree) ⌝ }
     ensures { λ r. ⌜ r ≡ nodes.sequentAt (now (tree .entry)) k ⌝ }
 {
     let at = k * NODE;
@@ -48,7 +50,7 @@ pub fn sequent_at(tree: &[u8], k: usize) -> Sequent
 
 // Node k.
 pub fn node_at(tree: &[u8], k: usize) -> Node
-    requires { ⌜ k * 40 + 40 ≤ length (now tree) ⌝ }
+    requires { ⌜ k * nodes.nodeSize + nodes.nodeSize ≤ length (now tree) ⌝ }
     ensures { λ r. ⌜ r ≡ nodes.nodeAt (now (tree .entry)) k ⌝ }
 {
     let at = k * NODE;

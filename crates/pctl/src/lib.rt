@@ -7,7 +7,7 @@ ghost use Rattle.pctl.specs.Table as table;
 use tables::RecordCount;
 
 // The bytes of a formula record.
-const RECORD: usize = 8;
+pub const RECORD: usize = 8;
 
 // What the input check of the table finds. `checked` of specs/ has document 01's numbers.
 pub enum Checked {
@@ -26,7 +26,7 @@ pub struct FormulaRecord {
 
 // Record i of the table.
 pub fn formula_at(formulas: &[u8], i: usize) -> FormulaRecord
-    requires { ⌜ i * 8 + 8 ≤ length (now formulas) ⌝ }
+    requires { ⌜ i * table.formulaSize + table.formulaSize ≤ length (now formulas) ⌝ }
     ensures { λ r. ⌜ r ≡ table.recordAt (now (formulas .entry)) i ⌝ }
 {
     let at = i * RECORD;
@@ -53,7 +53,7 @@ fn operand_good(has: bool, i: usize, operand: u16) -> bool
 
 // Whether record i has an operator above 5, a spare field that is not zero or an operand that is not lower.
 fn record_bad(formulas: &[u8], i: usize) -> bool
-    requires { ⌜ i * 8 + 8 ≤ length (now formulas) ⌝ }
+    requires { ⌜ i * table.formulaSize + table.formulaSize ≤ length (now formulas) ⌝ }
     ensures { λ r. ⌜ r ≡ table.formulaBad (now (formulas .entry)) i ⌝ }
 {
     let spare = formulas[i * RECORD + 1];
@@ -66,7 +66,7 @@ fn record_bad(formulas: &[u8], i: usize) -> bool
 
 // The lowest record at fault, or count where there is none.
 fn first_bad(formulas: &[u8], count: usize) -> usize
-    requires { ⌜ count * 8 ≤ length (now formulas) ⌝ }
+    requires { ⌜ count * table.formulaSize ≤ length (now formulas) ⌝ }
     ensures { λ r. ⌜ r ≡ lists.first (table.formulaBad (now (formulas .entry))) count ⌝ }
 {
     let mut i = 0;

@@ -1,80 +1,53 @@
-// The samples of nets: firings, and which transitions conflict.
-use sample_lines::end;
-use sample_lines::number;
-use sample_lines::print;
+// The tables of the samples of nets, built from their fields, and the conflicts in a decoded table.
+ghost use mathlib.Core.Path.{_≡_};
+ghost use Prim.Native.Nat.{_*_};
+ghost use lib.Seq.{sets};
+ghost use Rattle.sample_nets.specs.Tables as tables;
+use net::Checked;
 
-// Fires one transition and prints the answer's number, the record and the marking.
-fn firing(name: &[u8], places: u32, marking: u64, net: &[u8], transition: u32) {
-    print(name);
-    let answer = net::firing_numbers(net::fire(places, marking, net, transition));
-    number(answer.number as u64);
-    number(answer.place);
-    number(answer.marking);
-    end();
+// A transition record.
+pub fn transition(pre: u64, post: u64, action: u16) -> [u8; 24]
+    ensures { λ r. ⌜ r ≡ tables.transition pre post action ⌝ }
+{
+    let mut record = [0u8; 24];
+    sample_bytes::put_number(&mut record, 0, 8, pre);
+    sample_bytes::put_number(&mut record, 8, 8, post);
+    sample_bytes::put_number(&mut record, 16, 2, action as u64);
+    record
 }
 
-// The set of conflicts of a transition of a net with three transitions, which touch these places.
-fn conflicts(name: &[u8], t: u32, a: u64, b: u64, c: u64) {
-    let mut pre = [0u64; 64];
-    let post = [0u64; 64];
-    pre[0] = a;
-    pre[1] = b;
-    pre[2] = c;
-    print(name);
-    if t < 64 {
-        number(net::conflicts(t, 3, &pre, &post));
+// Writes the record of transition t into a table, as far as the table goes.
+pub fn put_transition(table: &mut [u8], t: u32, pre: u64, post: u64, action: u16)
+    ensures { λ _. ⌜ now (table .exit) ≡ sets (now (table .entry)) (t * 24) (tables.transition pre post action) ⌝ }
+{
+    let record = transition(pre, post, action);
+    sample_bytes::put_bytes(table, t as usize * 24, &record);
+}
+
+// Net R.
+pub fn net_r() -> [u8; 72]
+    ensures { λ r. ⌜ r ≡ tables.netR ⌝ }
+{
+    let mut table = [0u8; 72];
+    put_transition(&mut table, 0, 1, 1, 1);
+    put_transition(&mut table, 1, 2, 4, 2);
+    put_transition(&mut table, 2, 4, 0, 3);
+    table
+}
+
+// The set of the transitions in conflict with t, found in the decoded table; empty where the table is refused or has no t.
+pub fn conflicts(places: u32, net: &[u8], t: u32) -> u64
+    ensures { λ r. ⌜ r ≡ tables.conflictsIn places (now (net .entry)) t ⌝ }
+{
+    if let Checked::Refused(_) = net::check_table(places, net) {
+        return 0;
     }
-    end();
-}
-
-fn starred() {
-    let forward = *b"\x01\0\0\0\0\0\0\0\x02\0\0\0\0\0\0\0\0\0\0\0\0\0\0\0";
-    let around = *b"\x01\0\0\0\0\0\0\0\x01\0\0\0\0\0\0\0\0\0\0\0\0\0\0\0";
-    firing(b"1->2 at 1:", 2, 1, &forward, 0);
-    firing(b"1->2 at 3:", 2, 3, &forward, 0);
-    firing(b"1->1 at 1:", 1, 1, &around, 0);
-    conflicts(b"0->0 beside 1->1, t0:", 0, 0, 1, 0);
-    conflicts(b"0->0 beside 1->1, t2:", 2, 0, 1, 0);
-    conflicts(b"R, t0:", 0, 1, 6, 4);
-    conflicts(b"R, t1:", 1, 1, 6, 4);
-    conflicts(b"R, t2:", 2, 1, 6, 4);
-}
-
-// Each answer of the single firing, on net R at marking 3.
-fn answers() {
-    let net =
-        *b"\x01\0\0\0\0\0\0\0\x01\0\0\0\0\0\0\0\x01\0\0\0\0\0\0\0\x02\0\0\0\0\0\0\0\x04\0\0\0\0\0\0\0\x02\0\0\0\0\0\0\0\x04\0\0\0\0\0\0\0\0\0\0\0\0\0\0\0\x03\0\0\0\0\0\0\0";
-    firing(b"R, fire 0:", 3, 3, &net, 0);
-    firing(b"R, fire 1:", 3, 3, &net, 1);
-    firing(b"R, fire 2:", 3, 3, &net, 2);
-    firing(b"R, fire 3:", 3, 3, &net, 3);
-    firing(b"R, no places:", 0, 3, &net, 0);
-    firing(b"R, 65 places:", 65, 3, &net, 0);
-    firing(b"R, 71 bytes:", 3, 3, &net[..71], 0);
-    firing(b"no bytes:", 3, 3, &net[..0], 0);
-    firing(b"R, 2 places:", 2, 3, &net, 0);
-    firing(b"R, marking 8:", 3, 8, &net, 0);
-}
-
-// Place 63 with 64 and with 63 places, and a spare byte that is not zero.
-fn edges() {
-    let top = *b"\0\0\0\0\0\0\0\x80\0\0\0\0\0\0\0\0\0\0\0\0\0\0\0\0";
-    let spare =
-        *b"\x01\0\0\0\0\0\0\0\x02\0\0\0\0\0\0\0\0\0\0\0\0\0\0\0\x01\0\0\0\0\0\0\0\x02\0\0\0\0\0\0\0\0\0\0\0\0\0\0\x01";
-    firing(b"place 63 of 64:", 64, 9223372036854775808, &top, 0);
-    firing(b"place 63 of 63:", 63, 0, &top, 0);
-    firing(
-        b"marking 63 of 63:",
-        63,
-        9223372036854775808,
-        &spare[..24],
-        0,
-    );
-    firing(b"spare byte:", 2, 1, &spare, 0);
-}
-
-pub fn run() {
-    starred();
-    answers();
-    edges();
+    let decoded = net::decode(places, net);
+    let count = decoded.transitions;
+    if count <= t {
+        return 0;
+    }
+    let pre = decoded.pre;
+    let post = decoded.post;
+    net::conflicts(t, count, &pre, &post)
 }

@@ -1,3 +1,2 @@
 -- The starred samples of document 01.
-pub mod Tables
 pub mod Starred

@@ -1,18 +1,21 @@
--- The starred samples ("Sample nets") as rows of one list: what the definitions give, and what document 01 says, by its numbers.
+-- The starred samples ("Sample nets") as rows of one list: what the definitions give, and what document 01 says, by its
+-- numbers, or as the bytes of the line that it shows.
 -- Assumes nothing.
 use Prim.Native.Nat.{ℕ}
 use mathlib.Core.Path.{_≡_}
 use mathlib.Core.Bool.{Bool, cond}
 use mathlib.Core.List.{List, [], _∷_, _++_, map}
-use Rattle.net.specs.declared.Net.{Net}
 use Rattle.net.specs.Step.{conflict, conflicts}
 use Rattle.net.specs.Table.{netOf}
 use Rattle.net.specs.Answer.{Answer, Fault, firing}
 use Rattle.walk.specs.declared.Walk.{Walk}
 use Rattle.walk.specs.State.{empty}
 use Rattle.walk.specs.Calls.{loadWalk, fireAnswer, fireWalk, readMarking, readCount}
-use Rattle.checker.specs.Outcomes.{Outcome, checkOutcome}
-use Rattle.samples.specs.Tables.{transition, netR, formulasR, ask, treeR, treeFails}
+use Rattle.checker.specs.Outcomes.{checkOutcome}
+use Rattle.line.specs.Text.{bytes}
+use Rattle.line.specs.Line.{lineOf}
+use Rattle.sample_nets.specs.Tables.{transition, netR}
+use Rattle.sample_trees.specs.Tables.{formulasR, ask, treeR, treeFails}
 
 pub record Sample : Type 0 where
   pub gives : List ℕ
@@ -35,15 +38,15 @@ unfoldable pub walkR : Walk
 unfolding netR
 walkR = loadWalk empty 3 3 netR
 
--- accepted 0, refused 1, broken 2; the number; the nodes, the record or the node
-unfoldable pub judged : Outcome → List ℕ
-judged o = o .word ∷ o .number ∷ o .place ∷ []
+-- the bytes of the line that the program writes for four tables
+unfoldable pub written : (ask net formulas tree : List ℕ) → List ℕ
+written a net formulas tree = lineOf (checkOutcome a net formulas tree)
 
 unfoldable pub yes-or-no : Bool → ℕ
 yes-or-no b = cond b 1 0
 
 unfoldable pub starred : List Sample
-unfolding fired told readFrom walkR judged yes-or-no transition netR ask formulasR treeR treeFails
+unfolding fired told readFrom walkR written yes-or-no transition netR ask formulasR treeR treeFails
 starred =
     -- 1→2 at 1 gives 2
     record { gives = fired (firing 2 1 (transition 1 2 0) 0); says = 0 ∷ 0 ∷ 2 ∷ [] }
@@ -64,13 +67,13 @@ starred =
     -- R: fire 1: marking 5, count 1
     ∷ record { gives = told (fireAnswer walkR 1) ++ readFrom (fireWalk walkR 1); says = 0 ∷ 0 ∷ 5 ∷ 1 ∷ [] }
     -- R holds 2: accepted nodes 23
-    ∷ record { gives = judged (checkOutcome (ask 3 2 3 0) netR formulasR treeR); says = 0 ∷ 0 ∷ 23 ∷ [] }
+    ∷ record { gives = written (ask 3 2 3 0) netR formulasR treeR; says = bytes "accepted nodes 23\n" }
     -- R fails 2, node 3 keeping 2: broken 24 at 3
-    ∷ record { gives = judged (checkOutcome (ask 3 2 3 1) netR formulasR (treeFails 3 3 2)); says = 2 ∷ 24 ∷ 3 ∷ [] }
+    ∷ record { gives = written (ask 3 2 3 1) netR formulasR (treeFails 3 3 2); says = bytes "broken 24 at 3\n" }
     -- node 3 keeping 0: broken 26 at 1
-    ∷ record { gives = judged (checkOutcome (ask 3 2 3 1) netR formulasR (treeFails 3 3 0)); says = 2 ∷ 26 ∷ 1 ∷ [] }
+    ∷ record { gives = written (ask 3 2 3 1) netR formulasR (treeFails 3 3 0); says = bytes "broken 26 at 1\n" }
     -- only place 0 and t0, marking 1, node 3 keeping 0: accepted nodes 4
-    ∷ record { gives = judged (checkOutcome (ask 1 2 1 1) (transition 1 1 1) formulasR (treeFails 1 1 0)); says = 0 ∷ 0 ∷ 4 ∷ [] }
+    ∷ record { gives = written (ask 1 2 1 1) (transition 1 1 1) formulasR (treeFails 1 1 0); says = bytes "accepted nodes 4\n" }
     ∷ []
 
 -- each row gives what document 01 says

@@ -1,7 +1,7 @@
-// Runs the samples of document 01 and prints a line for each: a name, then the answer in document 01's numbers.
+// Runs the samples of document 01 and prints a line for each: a name, then the answer in document 01's numbers or its line.
+mod lines;
+mod trees;
+
 fn main() {
-    sample_nets::run();
-    sample_walks::run();
-    sample_labels::run();
-    sample_trees::run();
+    trees::print_all();
 }

@@ -7,13 +7,13 @@ use lib.ListN.{length, take}
 use lib.Seq.{length-take-le}
 use Rattle.treecheck.specs.declared.files.Got.{Got}
 use Rattle.treecheck.specs.declared.files.Got.the-variants.{Whole}
-use Rattle.treecheck.specs.Reading.{Holds}
+use Rattle.treecheck.specs.Reading.{FileRead}
 
-pub held : (l : List ℕ) (n : ℕ) → n < length l → Holds l (Whole n)
+pub held : (l : List ℕ) (n : ℕ) → n < length l → FileRead l (Whole n)
 held l n h = (h, (le-of-lt h, sym (length-take-le n l (le-of-lt h))))
 
-pub held-inside : (l : List ℕ) {g : Got} {n : ℕ} → Holds l g → g ≡ Whole n → n ≤ length l
-held-inside l h e = subst (Holds l) e h .1 .0
+pub held-inside : (l : List ℕ) {g : Got} {n : ℕ} → FileRead l g → g ≡ Whole n → n ≤ length l
+held-inside l h e = subst (FileRead l) e h .1 .0
 
-pub held-count : (l : List ℕ) {g : Got} {n : ℕ} → Holds l g → g ≡ Whole n → n ≡ length (take n l)
-held-count l h e = subst (Holds l) e h .1 .1
+pub held-count : (l : List ℕ) {g : Got} {n : ℕ} → FileRead l g → g ≡ Whole n → n ≡ length (take n l)
+held-count l h e = subst (FileRead l) e h .1 .1

@@ -7,6 +7,6 @@ use Rattle.treecheck.specs.declared.files.Got.{Got}
 use Rattle.treecheck.specs.declared.files.Got.the-variants.{Whole, Unread}
 
 -- a whole file is shorter than the buffer, and stands at its start
-abbrev pub Holds : List ℕ → Got → Type 0
-Holds l (Whole n) = (n < length l) × Counts n l
-Holds l Unread = Unit {0}
+abbrev pub FileRead : List ℕ → Got → Type 0
+FileRead l (Whole n) = (n < length l) × Counts n l
+FileRead l Unread = Unit {0}

@@ -1,7 +1,7 @@
 // Reading the four files.
 ghost use mathlib.Core.Path.{_≡_};
-ghost use lib.ListN.{length};
-ghost use Rattle.treecheck.specs.Reading.{Holds};
+ghost use lib.ListN.{length, replicate};
+ghost use Rattle.treecheck.specs.Reading.{FileRead};
 use line::Input;
 
 // What reading a file gives: so many bytes at the start of the buffer, or that it cannot be read or fills the buffer.
@@ -10,16 +10,17 @@ pub enum Got {
     Unread,
 }
 
-// A buffer for a file of at most 64,000 bytes: a longer one fills it.
+// A buffer of zeros for a file of at most 64,000 bytes: a longer one fills it.
 pub fn room() -> [u8; 64001]
-    ensures { λ r. ⌜ 64001 ≡ length r ⌝ }
+    ensures zeros { λ r. ⌜ r ≡ replicate 64001 0 ⌝ }
+    ensures size { λ r. ⌜ 64001 ≡ length r ⌝ }
 {
     [0; 64001]
 }
 
 // Reads to the file's end. A folder opens, and its first read fails.
 fn read_to_end(fd: i32, buf: &mut [u8]) -> Got
-    ensures { λ r. ⌜ Holds (now (buf .exit)) r ⌝ }
+    ensures { λ r. ⌜ FileRead (now (buf .exit)) r ⌝ }
 {
     let mut n: usize = 0;
     while n < buf.len() {
@@ -38,7 +39,7 @@ fn read_to_end(fd: i32, buf: &mut [u8]) -> Got
 
 // Reads the file at a path.
 fn read_path(path: &[u8], buf: &mut [u8]) -> Got
-    ensures { λ r. ⌜ Holds (now (buf .exit)) r ⌝ }
+    ensures { λ r. ⌜ FileRead (now (buf .exit)) r ⌝ }
 {
     let fd = os::open_read(path);
     if fd < 0 {
@@ -51,7 +52,7 @@ fn read_path(path: &[u8], buf: &mut [u8]) -> Got
 
 // Reads the file that an argument names. One that is too long for a path is no file's: its length comes as 0, and the empty path is refused.
 fn read_argument(i: usize, buf: &mut [u8]) -> Got
-    ensures { λ r. ⌜ Holds (now (buf .exit)) r ⌝ }
+    ensures { λ r. ⌜ FileRead (now (buf .exit)) r ⌝ }
 {
     let mut path = io::buffer();
     let size = os::arg(i, &mut path);
@@ -60,7 +61,7 @@ fn read_argument(i: usize, buf: &mut [u8]) -> Got
 
 // Reads the file that an argument names, or the one of a fixed name in the working folder.
 fn read_one(named: bool, i: usize, name: &[u8], buf: &mut [u8]) -> Got
-    ensures { λ r. ⌜ Holds (now (buf .exit)) r ⌝ }
+    ensures { λ r. ⌜ FileRead (now (buf .exit)) r ⌝ }
 {
     if named {
         return read_argument(i, buf);
@@ -70,7 +71,7 @@ fn read_one(named: bool, i: usize, name: &[u8], buf: &mut [u8]) -> Got
 
 // Reads one of the four files.
 pub fn read_input(file: Input, named: bool, buf: &mut [u8]) -> Got
-    ensures { λ r. ⌜ Holds (now (buf .exit)) r ⌝ }
+    ensures { λ r. ⌜ FileRead (now (buf .exit)) r ⌝ }
 {
     match file {
         Input::Ask => read_one(named, 1, b"ASK", buf),

@@ -1,19 +1,17 @@
 -- A granted load gives a loaded walk, and every call keeps a loaded walk loaded. A new walk is not loaded. Assumes nothing.
 use mathlib.Core.Path.{_≡_, refl, sym, ap, _∙_}
-use mathlib.Core.Bool.{Bool, true, false, cond, not, _&&_, _||_, false≢true}
+use mathlib.Core.Bool.{Bool, true, false, cond, not, _&&_, false≢true}
 use mathlib.Core.Logic.{_⊎_, inl, inr}
 use mathlib.Core.List.{List, [], _∷_}
 use Prim.Native.Nat.{ℕ, _+_, _/_, _%_, _≤_, _<_, zero-le}
-use native.Mathlib.Nat.{lt-of-lt-of-le}
 use native.Mathlib.Omega.{arith}
 use lib.ListN.{getD, length}
 use lib.Dec.{eqb, ltb, leb}
-use borrow.Author.Tests.{lt-ltb, ltb-true, ltb-false, le-leb, not-false}
+use borrow.Author.Tests.{lt-ltb, ltb-true, le-leb, not-false}
 use Rattle.bitset.specs.Sets.{member, within}
-use Rattle.tables.proofs.Tests.{and-left, and-right, and-intro}
+use Rattle.tables.proofs.Tests.{and-left, and-right, and-intro, either, if-true}
 use Rattle.bitset.proofs.Relations.{within-member, member-within}
 use Rattle.tables.specs.Sizes.{sized}
-use Rattle.tables.proofs.Entries.{before-first}
 use Rattle.net.specs.Step.{preOf, postOf, enabledBy, firedBy, enabled, fired}
 use Rattle.net.specs.Table.{preAt, postAt, spareAt, transitions, netOf, placesGood, tableSized, recordBad}
 use Rattle.tables.specs.Lists.{first}
@@ -117,7 +115,7 @@ module _ (places m : ℕ) (bytes : List ℕ) (e : noFault ≡ loadFault places m
 pub load-loaded : (w : Walk) (places m : ℕ) (bytes : List ℕ) → granted (loadAnswer places m bytes) ≡ true → loaded (loadWalk w places m bytes) ≡ true
 unfolding loadWalk
 load-loaded w places m bytes h =
-    ap (λ b. loaded (cond b (startedAt (netOf places bytes) m) w)) h
+    ap loaded (if-true _ _ w h)
     ∙ sound-loaded (startedAt (netOf places bytes) m) (load-sound places m bytes (load-none places m bytes h))
 
 -- ---- fire and reset
@@ -128,10 +126,6 @@ moved-within n pre post m p q =
     member-within n (firedBy pre post m)
     (λ k h. by k (either (member m k && not (member pre k)) (member post k) (sym (member-firedBy pre post m k) ∙ h)))
   where
-    either : (a b : Bool) → (a || b) ≡ true → (a ≡ true) ⊎ (b ≡ true)
-    either true b e = inl refl
-    either false b e = inr e
-
     by : (k : ℕ) → ((member m k && not (member pre k)) ≡ true) ⊎ (member post k ≡ true) → k < n
     by k (inl e) = within-member n m q k (and-left (member m k) (not (member pre k)) e)
     by k (inr e) = within-member n post p k e
@@ -156,7 +150,7 @@ fire-loaded w t h =
     let r = fire-needs w t h in
     let s = loaded-sound w (r .0) in
     let most : w .count + 1 ≤ 65535 = omega (arith, r .3) in
-    ap (λ b. loaded (cond b (movedTo w (fired (netIn w) (w .present) t) (w .count + 1)) w)) h
+    ap loaded (if-true _ _ w h)
     ∙ sound-loaded (movedTo w (fired (netIn w) (w .present) t) (w .count + 1))
     (moved-sound w (fired (netIn w) (w .present) t) (w .count + 1) s (fired-within w t s (r .1)) most)
 
@@ -172,7 +166,7 @@ pub reset-loaded : (w : Walk) → granted (loadedAnswer w) ≡ true → loaded (
 unfolding resetWalk
 reset-loaded w h =
     let s = loaded-sound w (reset-needs w h) in
-    ap (λ b. loaded (cond b (movedTo w (w .start) 0) w)) h
+    ap loaded (if-true _ _ w h)
     ∙ sound-loaded (movedTo w (w .start) 0) (moved-sound w (w .start) 0 s (s .start) zero-le)
 
 -- ---- any sequence of calls

@@ -8,7 +8,7 @@ use Prim.Native.Nat.{ℕ, suc, _+_, _≤_, _<_}
 use native.Mathlib.Nat.{add-zero, zero-add}
 use native.Mathlib.Omega.{arith}
 use lib.ListN.{length, length-append}
-use Rattle.tables.proofs.Tests.{and-left, and-right, and-intro}
+use Rattle.tables.proofs.Tests.{and-left, and-right, and-intro, if-true}
 use Rattle.net.specs.declared.Net.{Net}
 use Rattle.net.specs.Step.{enabled, fired}
 use Rattle.net.specs.Table.{netOf}
@@ -25,7 +25,7 @@ after-more : (N : Net) (m e t : ℕ) (ts : List ℕ) → after N m ts ≡ some e
 unfolding after
 after-more N m e t [] h p =
     let q : m ≡ e = cc in
-    ap (λ (x : ℕ). cond (enabled N x t) (some (fired N x t)) none) q ∙ ap (λ b. cond b (some (fired N e t)) none) p
+    ap (λ (x : ℕ). cond (enabled N x t) (some (fired N x t)) none) q ∙ if-true _ _ none p
 after-more N m e t (u ∷ ts) h p = by (enabled N m u) (after-more N (fired N m u) e t ts) h
   where
     by : (b : Bool) → (after N (fired N m u) ts ≡ some e → enabled N e t ≡ true → after N (fired N m u) (ts ++ (t ∷ [])) ≡ some (fired N e t))
@@ -97,7 +97,7 @@ follows-new = follows empty noCalls start
 -- what a granted firing leaves
 granted-walk : (w : Walk) (t : ℕ) → granted (fireAnswer w t) ≡ true → fireWalk w t ≡ movedTo w (fired (netIn w) (w .present) t) (w .count + 1)
 unfolding fireWalk
-granted-walk w t h = ap (λ b. cond b (movedTo w (fired (netIn w) (w .present) t) (w .count + 1)) w) h
+granted-walk w t h = if-true _ _ w h
 
 granted-count : (w : Walk) (t : ℕ) → granted (fireAnswer w t) ≡ true → fireWalk w t .count ≡ w .count + 1
 unfolding movedTo
@@ -119,7 +119,7 @@ fired-all w (t ∷ ts) h =
     let one = granted-count w t g in
     let sum : fireAll (fireWalk w t) ts .count ≡ w .count + suc (length ts) = omega (arith, r .0, one) in (
       sum,
-      ap (λ b. cond b (after (netIn w) (fired (netIn w) (w .present) t) ts) none) (fire-needs w t g .2) ∙ sym (granted-after w t ts g) ∙ r .1,
+      if-true _ _ none (fire-needs w t g .2) ∙ sym (granted-after w t ts g) ∙ r .1,
     )
 
 -- a firing sequence of the walk's net for which the count has room is granted whole
@@ -150,6 +150,6 @@ pub loaded-then-fired : (w : Walk) (places m : ℕ) (bytes : List ℕ) (ts : Lis
     × (after (netOf places bytes) m ts ≡ some (fireAll (loadWalk w places m bytes) ts .present))
 unfolding loadWalk startedAt netIn
 loaded-then-fired w places m bytes ts h g =
-    let e : loadWalk w places m bytes ≡ startedAt (netOf places bytes) m = ap (λ b. cond b (startedAt (netOf places bytes) m) w) h in
+    let e : loadWalk w places m bytes ≡ startedAt (netOf places bytes) m = if-true _ _ w h in
     let r = fired-all (loadWalk w places m bytes) ts g in
     (r .0 ∙ ap (λ v. v .count + length ts) e ∙ zero-add (length ts), sym (ap (λ v. after (netIn v) (v .present) ts) e) ∙ r .1)

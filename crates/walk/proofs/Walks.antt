@@ -7,7 +7,7 @@ use lib.ListN.{getD}
 use lib.Dec.{ltb, leb}
 use borrow.Author.Tests.{lt-ltb, le-ltb, not-true, not-false, leb-true}
 use Rattle.bitset.specs.Sets.{within}
-use Rattle.tables.proofs.Tests.{and-left, and-right, and-intro}
+use Rattle.tables.proofs.Tests.{and-left, and-right, and-intro, if-false}
 use Rattle.net.specs.declared.Net.{Net}
 use Rattle.net.specs.declared.Refusal.{Refusal}
 use Rattle.net.specs.declared.Refusal.the-variants.{Places, Size, Record, Marking, Absent, Disabled}
@@ -50,7 +50,7 @@ module _ (w : Walk) (places m : ℕ) (bytes : List ℕ) where
   pub load-refused : (r : Refusal) → checked (Bad r) ≡ loadFault places m bytes
       → (answerOf (Refused r) ≡ loadAnswer places m bytes) × (w ≡ loadWalk w places m bytes)
   unfolding answerOf checked loadAnswer
-  load-refused r e = (e, sym (loads (refusal r) e ∙ ap (λ b. cond b (startedAt (netOf places bytes) m) w) (refusal-not r)))
+  load-refused r e = (e, sym (loads (refusal r) e ∙ if-false _ _ w (refusal-not r)))
 
   pub load-granted : (N : Net) → checked Good ≡ loadFault places m bytes → N ≡ netOf places bytes
       → (answerOf Granted ≡ loadAnswer places m bytes) × (startedAt N m ≡ loadWalk w places m bytes)

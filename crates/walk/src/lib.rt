@@ -5,6 +5,7 @@ ghost use Rattle.tables.specs.Below as below;
 ghost use Rattle.walk.specs.State as state;
 ghost use Rattle.walk.specs.Calls as calls;
 use net::Checked;
+use net::Numbers;
 use net::Refusal;
 
 // The most firings that a walk counts.
@@ -41,6 +42,30 @@ pub struct Reading {
     pub answer: Answer,
     pub marking: u64,
     pub count: u32,
+}
+
+// An answer in document 01's numbers; the marking is 0.
+pub fn answer_numbers(answer: Answer) -> Numbers
+    ensures { λ r. ⌜ (r .number ≡ calls.answerOf answer .number) × (r .place ≡ calls.answerOf answer .place) × (r .marking ≡ 0) ⌝ }
+{
+    match answer {
+        Answer::Granted => Numbers {
+            number: 0,
+            place: 0,
+            marking: 0,
+        },
+        Answer::Unloaded => Numbers {
+            number: 40,
+            place: 0,
+            marking: 0,
+        },
+        Answer::Refused(why) => net::refusal_numbers(why),
+        Answer::Full => Numbers {
+            number: 42,
+            place: 0,
+            marking: 0,
+        },
+    }
 }
 
 // Whether the sets of each transition lie within the places.

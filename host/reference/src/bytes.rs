@@ -18,6 +18,11 @@ pub fn records<const N: usize>(
     table: &[u8],
     range: std::ops::RangeInclusive<usize>,
 ) -> Option<&[[u8; N]]> {
-    let (records, rest) = table.as_chunks::<N>();
-    (rest.is_empty() && range.contains(&records.len())).then_some(records)
+    let count = table.len() / N;
+    if table.len() % N != 0 || !range.contains(&count) {
+        return None;
+    }
+    // SAFETY: the table has `count` times N bytes, and an array of bytes is aligned like a byte.
+    // Rust 1.88 has `as_chunks` for this.
+    Some(unsafe { std::slice::from_raw_parts(table.as_ptr().cast(), count) })
 }

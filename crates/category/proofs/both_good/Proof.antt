@@ -2,7 +2,7 @@
 use mathlib.Core.Path.{sym, ap, _∙_}
 use borrow.Author.Needs.{needs}
 use Rattle.category.specs.declared.Checked.the-variants.{Good, Size, Record}
-use Rattle.category.specs.Faults.{answerOf}
+use Rattle.category.specs.Faults.{checked}
 use Rattle.category.proofs.Answers.{both-good}
 use Rattle.category.proofs.both_good.Statement.{statement}
 use Rattle.category.proofs.both_good.Tie as tie
@@ -20,16 +20,16 @@ enum-told-3 : tie.Need-enum-told-3
 enum-told-3 c = search needs
 
 returns : tie.Need-returns
-unfolding answerOf
-returns c = both-good _ _ Good (ap answerOf (sym (c .enum-told .given .1)) ∙ c .before .before .check .ensures)
+unfolding checked
+returns c = both-good _ _ Good (ap checked (sym (c .enum-told .given .1)) ∙ c .before .before .check .ensures)
 
 returns-2 : tie.Need-returns-2
-unfolding answerOf
-returns-2 c = both-good _ _ Size (ap answerOf (sym (c .enum-told2 .given .1)) ∙ c .before .before .check .ensures)
+unfolding checked
+returns-2 c = both-good _ _ Size (ap checked (sym (c .enum-told2 .given .1)) ∙ c .before .before .check .ensures)
 
 returns-3 : tie.Need-returns-3
-unfolding answerOf
-returns-3 c = both-good _ _ (Record (c .enum-told3 .given .0 .0)) (ap answerOf (sym (c .enum-told3 .given .1)) ∙ c .before .before .check .ensures)
+unfolding checked
+returns-3 c = both-good _ _ (Record (c .enum-told3 .given .0 .0)) (ap checked (sym (c .enum-told3 .given .1)) ∙ c .before .before .check .ensures)
 
 pub both-good-spec : {M : Type 1} → statement M
 both-good-spec =

@@ -2,7 +2,7 @@
 use mathlib.Core.Path.{sym, ap, refl, _∙_}
 use borrow.Author.Needs.{needs}
 use Rattle.category.specs.declared.Checked.the-variants.{Good, Size, Record}
-use Rattle.category.specs.Faults.{answerOf}
+use Rattle.category.specs.Faults.{checked}
 use Rattle.category.proofs.Answers.{check-first, check-second}
 use Rattle.category.proofs.check.Statement.{statement}
 use Rattle.category.proofs.check.Tie as tie
@@ -23,16 +23,16 @@ enum-known-own : tie.Need-enum-known-own
 enum-known-own c = search needs
 
 returns : tie.Need-returns
-unfolding answerOf
-returns c = c .check-file2 .ensures ∙ check-second _ _ Good (ap answerOf (sym (c .before .enum-told .given .1)) ∙ c .before .before .before .check-file .ensures) refl
+unfolding checked
+returns c = c .check-file2 .ensures ∙ check-second _ _ Good (ap checked (sym (c .before .enum-told .given .1)) ∙ c .before .before .before .check-file .ensures) refl
 
 returns-2 : tie.Need-returns-2
-unfolding answerOf
-returns-2 c = check-first _ _ Size (ap answerOf (sym (c .enum-told2 .given .1)) ∙ c .before .before .check-file .ensures) refl
+unfolding checked
+returns-2 c = check-first _ _ Size (ap checked (sym (c .enum-told2 .given .1)) ∙ c .before .before .check-file .ensures) refl
 
 returns-3 : tie.Need-returns-3
-unfolding answerOf
-returns-3 c = check-first _ _ (Record (c .before .own .given .0 .0)) (ap answerOf (sym (c .before .own .given .1)) ∙ c .before .before .before .check-file .ensures) refl
+unfolding checked
+returns-3 c = check-first _ _ (Record (c .before .own .given .0 .0)) (ap checked (sym (c .before .own .given .1)) ∙ c .before .before .before .check-file .ensures) refl
 
 pub check-spec : {M : Type 1} → statement M
 check-spec =

@@ -4,20 +4,20 @@ use Prim.Native.Nat.{_-_, _≤_}
 use native.Mathlib.Omega.{arith}
 use borrow.Author.Needs.{needs}
 use Rattle.category.specs.Records.{count}
-use Rattle.category.specs.Faults.{firstBad, recordBad}
-use Rattle.category.proofs.Ascent.{ascending-le, ascending-bad}
+use Rattle.category.specs.Faults.{recordBad}
+use Rattle.category.proofs.Ascent.{prefix-le, prefix-bad}
 use Rattle.category.proofs.Scan.{Passed, passed-none, passed-more, passed-first, passed-lowest, lowest-first}
 use Rattle.category.proofs.first_bad.Statement.{statement}
 use Rattle.category.proofs.first_bad.Tie as tie
 
 abbrev Inv-loop : tie.InvT-loop
-Inv-loop file sorted i₀ i = (i ≤ sorted) × Passed (recordBad file) 0 (count file) i
+Inv-loop file prefix i₀ i = (i ≤ prefix) × Passed (recordBad file) 0 (count file) i
 
 abbrev μ-loop : tie.MeasureT-loop
-μ-loop file sorted i₀ i = sorted - i
+μ-loop file prefix i₀ i = prefix - i
 
-ascending-requires : tie.Need-ascending-requires Inv-loop μ-loop
-ascending-requires c κs = search needs
+ascending-prefix-requires : tie.Need-ascending-prefix-requires Inv-loop μ-loop
+ascending-prefix-requires c κs = search needs
 
 loop-holds : tie.Need-loop-holds Inv-loop μ-loop
 loop-holds c = (search needs, passed-none _ _ _ (search needs))
@@ -26,10 +26,9 @@ record-bad-requires : tie.Need-record-bad-requires Inv-loop μ-loop
 record-bad-requires c κs = search needs
 
 returns : tie.Need-returns Inv-loop μ-loop
-unfolding firstBad
 returns c = passed-first
     (c .before .before .before .loop .inv .1)
-    (omega (arith, ascending-le _ _ (c .before .before .before .before .ascending .ensures)))
+    (omega (arith, prefix-le _ _ (c .before .before .before .before .ascending-prefix .ensures)))
     (sym (c .before .record-bad .ensures) ∙ c .if1 .taken)
 
 add-i : tie.Need-add-i Inv-loop μ-loop
@@ -43,16 +42,15 @@ loop-again c = (
   search needs,
   passed-more
       (c .before .before .before .loop .inv .1)
-      (omega (arith, ascending-le _ _ (c .before .before .before .before .ascending .ensures)))
+      (omega (arith, prefix-le _ _ (c .before .before .before .before .ascending-prefix .ensures)))
       (sym (c .before .record-bad .ensures) ∙ c .if1 .left),
 )
 
 returns-2 : tie.Need-returns-2 Inv-loop μ-loop
-unfolding firstBad
 returns-2 c = lowest-first
     (passed-lowest
     (c .before .loop .inv .1)
-    (ascending-bad _ _ _ (c .before .before .ascending .ensures) (search needs) (c .before .loop .inv .0)))
+    (prefix-bad _ _ _ (c .before .before .ascending-prefix .ensures) (search needs) (c .before .loop .inv .0)))
 
 pub first-bad-spec : {M : Type 1} → statement M
 first-bad-spec =
@@ -60,7 +58,7 @@ first-bad-spec =
     (tie.spec
     Inv-loop
     μ-loop
-    ascending-requires
+    ascending-prefix-requires
     loop-holds
     record-bad-requires
     returns

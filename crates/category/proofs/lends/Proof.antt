@@ -4,8 +4,9 @@ use mathlib.Core.Path.{sym, _∙_}
 use native.Mathlib.Omega.{arith}
 use borrow.Author.Needs.{needs}
 use Rattle.category.specs.Records.{lends, lendsAt}
-use Rattle.category.proofs.Ascent.{none-lends, ascending-rising, ascending-le}
-use Rattle.category.proofs.Scan.{some-is, lowest-some}
+use Rattle.tables.proofs.Below.{some-is}
+use Rattle.category.proofs.Ascent.{none-lends, prefix-rising, prefix-le}
+use Rattle.category.proofs.Scan.{lowest-some}
 use Rattle.category.proofs.lends.Statement.{statement}
 use Rattle.category.proofs.lends.Tie as tie
 
@@ -13,7 +14,7 @@ lower-bound-requires : tie.Need-lower-bound-requires
 lower-bound-requires c κs = search needs
 
 lends-at-requires : tie.Need-lends-at-requires
-lends-at-requires c κs = omega (arith, ascending-le _ _ (c .before .before .before .pre))
+lends-at-requires c κs = omega (arith, prefix-le _ _ (c .before .before .before .pre))
 
 returns : tie.Need-returns
 unfolding lends
@@ -22,18 +23,18 @@ returns c = sym
     (lendsAt _ _)
     _
     (c .before .before .before .lower-bound .result)
-    (omega (arith, ascending-le _ _ (c .before .before .before .before .before .pre)))
+    (omega (arith, prefix-le _ _ (c .before .before .before .before .before .pre)))
     (sym (c .before .lends-at .ensures) ∙ c .if2 .taken))
 
 find-lender-requires : tie.Need-find-lender-requires
-find-lender-requires c κs = ascending-le _ _ (c .before .before .before .pre)
+find-lender-requires c κs = prefix-le _ _ (c .before .before .before .pre)
 
 returns-2 : tie.Need-returns-2
 unfolding lends
 returns-2 c = lowest-some
     (c .find-lender .ensures)
     (none-lends
-    (ascending-rising _ _ (c .before .before .before .before .pre))
+    (prefix-rising _ _ (c .before .before .before .before .pre))
     (c .before .before .lower-bound .ensures)
     (λ l. ⊎-elim (λ w. sym (w .1 .ensures) ∙ w .2 .left) (λ w. absurd (omega arith)) (c .before .if1 .came)))
 

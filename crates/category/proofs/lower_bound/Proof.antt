@@ -3,24 +3,24 @@
 use Prim.Native.Nat.{_-_}
 use native.Mathlib.Omega.{arith}
 use borrow.Author.Needs.{needs}
-use Rattle.category.proofs.Ascent.{Narrowed, narrowed-none, narrowed-low, narrowed-high, narrowed-done, ascending-rising, ascending-le}
+use Rattle.category.proofs.Ascent.{Narrowed, narrowed-none, narrowed-low, narrowed-high, narrowed-done, prefix-rising, prefix-le}
 use Rattle.category.proofs.lower_bound.Statement.{statement}
 use Rattle.category.proofs.lower_bound.Tie as tie
 
 abbrev Inv-loop : tie.InvT-loop
-Inv-loop file action sorted low₀ high₀ low high = Narrowed file action sorted low high
+Inv-loop file action prefix low₀ high₀ low high = Narrowed file action prefix low high
 
 abbrev μ-loop : tie.MeasureT-loop
-μ-loop file action sorted low₀ high₀ low high = high - low
+μ-loop file action prefix low₀ high₀ low high = high - low
 
 loop-holds : tie.Need-loop-holds Inv-loop μ-loop
 loop-holds c = narrowed-none _ _ _
 
 add-middle : tie.Need-add-middle Inv-loop μ-loop
-add-middle c = omega (arith, ascending-le _ _ (c .before .before .before .pre))
+add-middle c = omega (arith, prefix-le _ _ (c .before .before .before .pre))
 
 action-at-requires : tie.Need-action-at-requires Inv-loop μ-loop
-action-at-requires c κs = omega (arith, ascending-le _ _ (c .before .before .before .pre))
+action-at-requires c κs = omega (arith, prefix-le _ _ (c .before .before .before .pre))
 
 add-low : tie.Need-add-low Inv-loop μ-loop
 add-low c = search needs
@@ -30,7 +30,7 @@ loop-less c = search needs
 
 loop-again : tie.Need-loop-again Inv-loop μ-loop
 loop-again c = narrowed-low
-    (ascending-rising _ _ (c .before .before .before .before .before .pre))
+    (prefix-rising _ _ (c .before .before .before .before .before .pre))
     (c .before .before .before .loop .inv)
     _
     (search needs)
@@ -41,7 +41,7 @@ loop-less-2 c = search needs
 
 loop-again-2 : tie.Need-loop-again-2 Inv-loop μ-loop
 loop-again-2 c = narrowed-high
-    (ascending-rising _ _ (c .before .before .before .before .before .pre))
+    (prefix-rising _ _ (c .before .before .before .before .before .pre))
     (c .before .before .before .loop .inv)
     _
     (search needs)

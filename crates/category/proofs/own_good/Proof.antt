@@ -1,8 +1,6 @@
 -- `category::own_good` meets its contract. Assumes nothing.
-use mathlib.Core.Bool.{and-assoc}
 use borrow.Author.Needs.{needs}
 use Rattle.category.specs.Faults.{ownGood}
-use Rattle.category.specs.Texts.{textGood}
 use Rattle.category.proofs.own_good.Statement.{statement}
 use Rattle.category.proofs.own_good.Tie as tie
 
@@ -13,8 +11,8 @@ text-good-requires : tie.Need-text-good-requires
 text-good-requires c κs = search needs
 
 returns : tie.Need-returns
-unfolding ownGood textGood
-returns c = simp (c .text-good .ensures, c .before .lender-at .ensures, and-assoc)
+unfolding ownGood
+returns c = simp (c .text-good .ensures, c .before .lender-at .ensures)
 
 pub own-good-spec : {M : Type 1} → statement M
 own-good-spec = tie.close (tie.spec lender-at-requires text-good-requires returns)

@@ -2,7 +2,7 @@
 use native.Mathlib.Omega.{arith}
 use borrow.Author.Needs.{needs}
 use Rattle.category.specs.Labels.{placeIn}
-use Rattle.category.proofs.Places.{part-inside}
+use Rattle.category.proofs.Sources.{part-inside}
 use Rattle.category.proofs.place_in.Statement.{statement}
 use Rattle.category.proofs.place_in.Tie as tie
 

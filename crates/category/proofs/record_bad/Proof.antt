@@ -1,22 +1,22 @@
 -- `category::record_bad` meets its contract. Assumes nothing.
 use native.Mathlib.Omega.{arith}
 use Rattle.category.specs.Faults.{recordBad}
-use Rattle.category.proofs.Ascent.{ascending-ascends, ascending-le}
+use Rattle.category.proofs.Ascent.{prefix-ascends, prefix-le}
 use Rattle.category.proofs.record_bad.Statement.{statement}
 use Rattle.category.proofs.record_bad.Tie as tie
 
 spare-zero-requires : tie.Need-spare-zero-requires
-spare-zero-requires c κs = omega (arith, ascending-le _ _ (c .before .pre .1))
+spare-zero-requires c κs = omega (arith, prefix-le _ _ (c .before .pre .1))
 
 kind-good-requires : tie.Need-kind-good-requires
-kind-good-requires c κs = (omega (arith, ascending-le _ _ (c .before .before .pre .1)), c .before .before .pre .1)
+kind-good-requires c κs = (omega (arith, prefix-le _ _ (c .before .before .pre .1)), c .before .before .pre .1)
 
 returns : tie.Need-returns
 unfolding recordBad
 returns c = simp (
   c .kind-good .ensures,
   c .before .spare-zero .ensures,
-  ascending-ascends _ _ (c .before .before .before .pre .1) _ (c .before .before .before .pre .0),
+  prefix-ascends _ _ (c .before .before .before .pre .1) _ (c .before .before .before .pre .0),
 )
 
 pub record-bad-spec : {M : Type 1} → statement M

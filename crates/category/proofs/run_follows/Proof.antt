@@ -1,23 +1,23 @@
--- `category::run_follows` meets its contract. The loop's invariant: `ok` says whether each byte passed may stand behind the one before it.
+-- `category::run_follows` meets its contract. The loop's invariant: `ok` says whether each byte passed may stand after the one before it.
 -- Assumes nothing.
-use mathlib.Core.Path.{_≡_, refl, ap₂, _∙_}
+use mathlib.Core.Path.{_≡_, ap₂, _∙_}
 use Prim.Native.Nat.{_+_, _-_, _≤_}
 use borrow.Author.Needs.{needs}
+use Rattle.tables.specs.Below.{everyBelow}
+use Rattle.tables.proofs.Below.{every-start, every-next, every-done}
 use Rattle.category.specs.Records.{textByte}
-use Rattle.category.specs.Texts.{every, follows, runFollows}
-use Rattle.category.proofs.Texts.{every-next, every-done}
+use Rattle.category.specs.Serving.{follows, runFollows}
 use Rattle.category.proofs.run_follows.Statement.{statement}
 use Rattle.category.proofs.run_follows.Tie as tie
 
 abbrev Inv-loop : tie.InvT-loop
-Inv-loop file i from ok₀ j₀ ok j = (j ≤ 16) × (ok ≡ every (λ k. follows (textByte file i (from + k)) (textByte file i (from + k + 1))) j)
+Inv-loop file i from ok₀ j₀ ok j = (j ≤ 16) × (ok ≡ everyBelow (λ k. follows (textByte file i (from + k)) (textByte file i (from + k + 1))) j)
 
 abbrev μ-loop : tie.MeasureT-loop
 μ-loop file i from ok₀ j₀ ok j = 16 - j
 
 loop-holds : tie.Need-loop-holds Inv-loop μ-loop
-unfolding every
-loop-holds c = (search needs, refl)
+loop-holds c = (search needs, every-start _)
 
 add-text-byte : tie.Need-add-text-byte Inv-loop μ-loop
 add-text-byte c = search needs

@@ -4,7 +4,7 @@ use native.Mathlib.Omega.{arith}
 use native.Mathlib.Nat.{add-sub-cancel-left}
 use borrow.Author.Needs.{needs}
 use Rattle.category.specs.Labels.{textOf}
-use Rattle.category.proofs.Places.{part-inside}
+use Rattle.category.proofs.Sources.{part-inside}
 use Rattle.category.proofs.text.Statement.{statement}
 use Rattle.category.proofs.text.Tie as tie
 

@@ -4,29 +4,23 @@ use Rattle.category.proofs.Texts.{zero-words}
 use Rattle.category.proofs.text_zero.Statement.{statement}
 use Rattle.category.proofs.text_zero.Tie as tie
 
-mul-u64-at : tie.Need-mul-u64-at
-mul-u64-at c = search needs
+mul-at : tie.Need-mul-at
+mul-at c = search needs
 
-add-u64-at : tie.Need-add-u64-at
-add-u64-at c = search needs
+add-at : tie.Need-add-at
+add-at c = search needs
 
 u64-at-requires : tie.Need-u64-at-requires
 u64-at-requires c κs = search needs
 
-mul-u64-at-2 : tie.Need-mul-u64-at-2
-mul-u64-at-2 c = search needs
-
-add-u64-at-2 : tie.Need-add-u64-at-2
-add-u64-at-2 c = search needs
+add-u64-at : tie.Need-add-u64-at
+add-u64-at c = search needs
 
 u64-at-requires-2 : tie.Need-u64-at-requires-2
 u64-at-requires-2 c κs = search needs
 
-mul-u64-at-3 : tie.Need-mul-u64-at-3
-mul-u64-at-3 c = search needs
-
-add-u64-at-3 : tie.Need-add-u64-at-3
-add-u64-at-3 c = search needs
+add-u64-at-2 : tie.Need-add-u64-at-2
+add-u64-at-2 c = search needs
 
 u64-at-requires-3 : tie.Need-u64-at-requires-3
 u64-at-requires-3 c κs = search needs
@@ -38,13 +32,11 @@ pub text-zero-spec : {M : Type 1} → statement M
 text-zero-spec =
     tie.close
     (tie.spec
-    mul-u64-at
-    add-u64-at
+    mul-at
+    add-at
     u64-at-requires
-    mul-u64-at-2
-    add-u64-at-2
+    add-u64-at
     u64-at-requires-2
-    mul-u64-at-3
-    add-u64-at-3
+    add-u64-at-2
     u64-at-requires-3
     returns)

@@ -1,7 +1,6 @@
 -- `pctl::record_bad` meets its contract. Assumes nothing.
 use Rattle.tables.proofs.Numbers.{field-one}
 use Rattle.pctl.proofs.Fields.{bad-fields}
-use mathlib.Core.Path.{_≡_, sym, ap}
 use Rattle.pctl.specs.Table as table
 use borrow.Author.Needs.{needs}
 use Rattle.pctl.proofs.record_bad.Statement.{statement}

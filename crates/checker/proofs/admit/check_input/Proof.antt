@@ -1,16 +1,16 @@
 -- `checker::admit/check_input` meets its contract. Assumes nothing.
 use Rattle.net.proofs.Answers.{refusal-number}
-use mathlib.Core.Path.{refl, sym, ap, _∙_}
+use mathlib.Core.Path.{sym, ap, _∙_}
 use Rattle.checker.specs.Outcomes as outcomes
 use Rattle.net.specs.Answer.{checked}
-use Rattle.checker.proofs.Admitting.{not-twelve, bad-ask, input-table, input-rest}
+use Rattle.checker.proofs.Admitting.{ask-size, bad-ask, input-table, input-rest}
 use borrow.Author.Needs.{needs}
 use Rattle.checker.proofs.admit.check_input.Statement.{statement}
 use Rattle.checker.proofs.admit.check_input.Tie as tie
 
 returns : tie.Need-returns
 unfolding outcomes.input
-returns c = not-twelve _ _ _ _ (c .if1 .taken)
+returns c = ask-size _ _ _ _ (c .if1 .taken)
 
 ask-of-requires : tie.Need-ask-of-requires
 ask-of-requires c κs = search needs
