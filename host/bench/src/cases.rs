@@ -1,6 +1,7 @@
 //! The cases of the benchmark.
 
 use std::hint::black_box;
+use std::path::Path;
 
 use generate::cases::TreeCase;
 use generate::categories::{borrower, named};
@@ -158,4 +159,28 @@ fn label_bench(translation: Vec<u8>, house: Vec<u8>, action: u16) -> Bench {
             mix(label.file, label.offset, label.length)
         }),
     }
+}
+
+/// The tables of the cases as files of a folder. The trail is a short one, since
+/// its cost is the square of its length.
+pub fn write(folder: &Path) -> std::io::Result<()> {
+    std::fs::create_dir_all(folder)?;
+    let trees = [
+        ("r", families::r_holds()),
+        ("trail", families::trail_chain(1000)),
+        ("chain", families::plain_chain(21_843)),
+        ("and", families::and_tree(16)),
+        ("wide", families::wide()),
+        ("rings", families::realistic()),
+    ];
+    for (name, case) in trees {
+        std::fs::write(folder.join(format!("{name}.ask")), case.ask)?;
+        std::fs::write(folder.join(format!("{name}.net")), case.net)?;
+        std::fs::write(folder.join(format!("{name}.formulas")), case.formulas)?;
+        std::fs::write(folder.join(format!("{name}.tree")), case.tree)?;
+    }
+    std::fs::write(folder.join("large.net"), large_net())?;
+    std::fs::write(folder.join("full"), full_file())?;
+    std::fs::write(folder.join("small.1"), small_file(1))?;
+    std::fs::write(folder.join("small.2"), small_file(2))
 }

@@ -4,9 +4,12 @@
 //! bench list                       the names of the cases
 //! bench one CASE SIDE TIMES        one case on one side (archive, reference)
 //! bench growth                     cost by nodes, depth and transitions
+//! bench tables FOLDER              the tables of the cases as files, for pair/
 
 mod cases;
 mod measure;
+
+use std::path::Path;
 
 use cases::{Bench, CASES, tree_bench};
 use generate::cases::TreeCase;
@@ -21,7 +24,10 @@ fn main() {
         ["list"] => CASES.iter().for_each(|(name, _)| println!("{name}")),
         ["one", name, side, times] => one(name, side, times.parse().expect("a number")),
         ["growth"] => growth(),
-        _ => eprintln!("bench | bench list | bench one CASE SIDE TIMES | bench growth"),
+        ["tables", folder] => cases::write(Path::new(folder)).expect("a folder to write to"),
+        _ => eprintln!(
+            "bench | bench list | bench one CASE SIDE TIMES | bench growth | bench tables FOLDER"
+        ),
     }
 }
 
