@@ -1,5 +1,6 @@
 #!/bin/bash
 # Tests the code of docs/GUIDE.md and docs/REFERENCE.md: DESK_LIB=FOLDER guide.sh PATH-OF-TREECHECK
+# The program `pnml` stands beside treecheck.
 # A line `<!-- file: NAME -->` stands before a block that is a C program or a shell script, `<!-- output: NAME -->` before the block with what
 # that one writes. Each is compiled and run in a copy of what the pages name. A table of nodes after `<!-- nodes: PATH -->` is compared with
 # that file. DESK_LINK may name further libraries, DESK_DOCS another folder with the two pages.
@@ -18,7 +19,7 @@ work=$(mktemp -d)
 trap 'rm -rf "$work"' EXIT
 
 # The code that the pages must have, and the files whose nodes they must list.
-code="screen.c loader.c rule.sh r.sh search.c terminal.c trail.sh"
+code="screen.c loader.c rule.sh r.sh editor.sh planner.c search.c terminal.c trail.sh"
 tables="examples/r/TREE"
 
 passed=0
@@ -35,9 +36,11 @@ fail() {
 }
 
 # The folder that the pages speak of.
-mkdir -p "$work/page/target/bin" "$work/page/target/staticlib" "$work/blocks"
+mkdir -p "$work/page/docs" "$work/page/target/bin" "$work/page/target/staticlib" "$work/blocks"
 cp -r "$root/include" "$root/examples" "$work/page"
+cp "$root/docs/R.pnml" "$work/page/docs"
 cp "$program" "$work/page/target/bin/treecheck"
+cp "$(dirname "$program")/pnml" "$work/page/target/bin/pnml"
 cp "$DESK_LIB/libdesk.a" "$work/page/target/staticlib"
 
 # Takes out the blocks: `file NAME` and `output NAME` become files of that name. A mark that no block or table follows at once, one that

@@ -1,14 +1,18 @@
 /* The desk's C interface: the tree check, the single firing and the category
- * labels of document 01. Archive: libdesk.a.
+ * labels of document 01, and nets as PNML text of document 02. Archive:
+ * libdesk.a.
  *
- * Tables are lent as a pointer and a length in bytes. They are only read, and
- * nothing of them is kept after the call. Every call writes every one of its
- * out-parameters, also where it refuses. An out-pointer must not be null, and
- * what it points to must overlap neither a table nor another out-parameter.
+ * Tables and texts are lent as a pointer and a length in bytes. They are only
+ * read, and nothing of them is kept after the call. Room for what a call writes
+ * is lent in the same way: what is written stands at its start, the bytes after
+ * that stay as they are, and a refused call writes nothing to it. Every call
+ * writes every one of its out-parameters, also where it refuses. An out-pointer
+ * must not be null. What it points to, and a room, must overlap neither a table
+ * or text nor another out-parameter or room.
  *
- * The desk_... functions want a table pointer that is not null even where the
- * length is 0. The inline desk_..._bytes functions below take NULL with length
- * 0 for an empty table; apart from that they ask and answer the same. */
+ * The desk_... functions want pointers that are not null even where the length
+ * is 0. The inline desk_..._bytes functions below take NULL with length 0 for
+ * an empty table, text or room; apart from that they ask and answer the same. */
 #ifndef DESK_H
 #define DESK_H
 
@@ -30,10 +34,11 @@ enum {
     DESK_TRANSITIONS_MAX = 64,
     DESK_FORMULAS_MAX = 256,
     DESK_NODES_MAX = 65536,
-    DESK_CATEGORIES_MAX = 2000
+    DESK_CATEGORIES_MAX = 2000,
+    DESK_PNML_MAX = 357429 /* the longest text that desk_pnml_write writes */
 };
 
-/* The numbers of document 01. */
+/* The numbers of documents 01 and 02. */
 enum {
     DESK_GRANTED = 0,            /* accepted, fired, no record at fault */
     DESK_BAD_ASK = 1,            /* ask not 12 bytes, places or side out of range */
@@ -46,6 +51,8 @@ enum {
     DESK_NO_TRANSITION = 8,      /* transition number not in the net */
     DESK_BAD_CATEGORIES_SIZE = 9, /* not 0 to 2,000 category records */
     DESK_BAD_CATEGORY = 10,      /* a faulty category record */
+    DESK_SHORT_ROOM = 12,        /* the room is too short for what is to be written */
+    DESK_BAD_PNML = 13,          /* the text is not of the shape that is read */
     DESK_FAULT_LINKS = 20,       /* parent, first child or number of children */
     DESK_FAULT_RANGE = 21,       /* a field out of range, or not zero where required */
     DESK_FAULT_ROOT = 22,        /* the root is not the ask in phase 0 */
@@ -95,11 +102,41 @@ void desk_label(const uint8_t *translation, size_t translation_len,
                 const uint8_t *house, size_t house_len, uint16_t action,
                 uint32_t *file, uint32_t *offset, uint32_t *length);
 
-/* A pointer that is not null, for a table that may be NULL with length 0. */
+/* The net with its marking as PNML text, at the start of the room. The answer
+ * is DESK_GRANTED with *record 0 and the bytes of the text in *length; or 1
+ * (places), 2, 3 or 7 with the record, 0 except for 3, and *length 0; or 12,
+ * exactly where the text is longer than the room, with both 0. Room of
+ * DESK_PNML_MAX bytes is enough for every net. No zero follows the text. */
+uint32_t desk_pnml_write(uint32_t places, uint64_t marking,
+                         const uint8_t *net, size_t net_len,
+                         uint8_t *room, size_t room_len,
+                         uint64_t *record, uint64_t *length);
+
+/* The net of a PNML text, its transition records at the start of the room. The
+ * answer is DESK_GRANTED with the number of places, the marking and the bytes
+ * of the records in *length, and *offset 0. It is 13 where the text is not of
+ * the shape that desk_pnml_write writes (white space may follow any '>' but
+ * that of <text>), with *offset that of the first byte after which no text of
+ * the shape can follow, text_len where the text stops short. It is 1 where the
+ * places are not 1 to 64, 2 where the transitions are not, and 12 exactly where
+ * the records are longer than the room; then *offset is 0. Where the call
+ * refuses, *places, *marking and *length are 0. Room of 64 records is enough. */
+uint32_t desk_pnml_read(const uint8_t *text, size_t text_len,
+                        uint8_t *room, size_t room_len,
+                        uint64_t *offset, uint32_t *places, uint64_t *marking, uint64_t *length);
+
+/* A pointer that is not null, for a table or text that may be NULL with length 0. */
 static inline const uint8_t *desk_table(const uint8_t *table)
 {
     static const uint8_t empty = 0;
     return table != NULL ? table : &empty;
+}
+
+/* The same for a room. Nothing is written to a room of length 0. */
+static inline uint8_t *desk_room(uint8_t *room)
+{
+    static uint8_t empty = 0;
+    return room != NULL ? room : &empty;
 }
 
 /* desk_check, where a table of length 0 may be NULL. */
@@ -137,6 +174,26 @@ static inline void desk_label_bytes(const uint8_t *translation, size_t translati
 {
     desk_label(desk_table(translation), translation_len,
                desk_table(house), house_len, action, file, offset, length);
+}
+
+/* desk_pnml_write, where a net or room of length 0 may be NULL. */
+static inline uint32_t desk_pnml_write_bytes(uint32_t places, uint64_t marking,
+                                             const uint8_t *net, size_t net_len,
+                                             uint8_t *room, size_t room_len,
+                                             uint64_t *record, uint64_t *length)
+{
+    return desk_pnml_write(places, marking, desk_table(net), net_len,
+                           desk_room(room), room_len, record, length);
+}
+
+/* desk_pnml_read, where a text or room of length 0 may be NULL. */
+static inline uint32_t desk_pnml_read_bytes(const uint8_t *text, size_t text_len,
+                                            uint8_t *room, size_t room_len,
+                                            uint64_t *offset, uint32_t *places,
+                                            uint64_t *marking, uint64_t *length)
+{
+    return desk_pnml_read(desk_table(text), text_len, desk_room(room), room_len,
+                          offset, places, marking, length);
 }
 
 #ifdef __cplusplus

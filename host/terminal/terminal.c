@@ -437,6 +437,402 @@ static void full_files(void)
     }
 }
 
+/* PNML texts */
+
+static const char HEAD[] =
+    "<pnml xmlns=\"http://www.pnml.org/version-2009/grammar/pnml\">"
+    "<net id=\"n\" type=\"http://www.pnml.org/version-2009/grammar/ptnet\"><page id=\"g\">";
+static const char TAIL[] = "</page></net></pnml>";
+
+/* Net R at marking 3, after HEAD and before TAIL. */
+static const char R_INSIDE[] =
+    "<place id=\"p0\"><initialMarking><text>1</text></initialMarking></place>"
+    "<place id=\"p1\"><initialMarking><text>1</text></initialMarking></place>"
+    "<place id=\"p2\"><initialMarking><text>0</text></initialMarking></place>"
+    "<transition id=\"t0\"><name><text>1</text></name></transition>"
+    "<transition id=\"t1\"><name><text>2</text></name></transition>"
+    "<transition id=\"t2\"><name><text>3</text></name></transition>"
+    "<arc id=\"a0\" source=\"p0\" target=\"t0\"/><arc id=\"a1\" source=\"t0\" target=\"p0\"/>"
+    "<arc id=\"a2\" source=\"p1\" target=\"t1\"/><arc id=\"a3\" source=\"t1\" target=\"p2\"/>"
+    "<arc id=\"a4\" source=\"p2\" target=\"t2\"/>";
+
+/* A text that grows, of at most DESK_PNML_MAX bytes. */
+static char growing[DESK_PNML_MAX + 1];
+static size_t grown;
+
+static void add(const char *bytes)
+{
+    size_t len = strlen(bytes);
+    if (len > DESK_PNML_MAX - grown) {
+        puts("a text is too long");
+        exit(1);
+    }
+    memcpy(growing + grown, bytes, len);
+    grown += len;
+}
+
+static void add_number(uint64_t number)
+{
+    char digits[21];
+    snprintf(digits, sizeof digits, "%" PRIu64, number);
+    add(digits);
+}
+
+static void add_place(size_t place, uint64_t mark)
+{
+    add("<place id=\"p");
+    add_number(place);
+    add("\"><initialMarking><text>");
+    add_number(mark);
+    add("</text></initialMarking></place>");
+}
+
+static void add_transition(size_t transition, uint64_t action)
+{
+    add("<transition id=\"t");
+    add_number(transition);
+    add("\"><name><text>");
+    add_number(action);
+    add("</text></name></transition>");
+}
+
+static void add_arc(size_t arc, const char *source, size_t from, const char *target, size_t to)
+{
+    add("<arc id=\"a");
+    add_number(arc);
+    add(source);
+    add_number(from);
+    add(target);
+    add_number(to);
+    add("\"/>");
+}
+
+/* What has grown, in an allocation of the exact size. */
+static table text(void)
+{
+    table t = empty_table(grown);
+    memcpy(t.bytes, growing, grown);
+    grown = 0;
+    return t;
+}
+
+static table text_of(const char *first, const char *second, const char *third)
+{
+    add(first);
+    add(second);
+    add(third);
+    return text();
+}
+
+/* A net of so many places and transitions, every arc, every place marked. */
+static table full_net(size_t places, size_t transitions, uint64_t action)
+{
+    table t = empty_table(transitions * DESK_TRANSITION_BYTES);
+    uint64_t all = UINT64_MAX >> (64 - places);
+    for (size_t i = 0; i < transitions; i++) {
+        put_transition(t.bytes + i * DESK_TRANSITION_BYTES, all, all, action);
+    }
+    return t;
+}
+
+static table full_text(size_t places, size_t transitions, uint64_t action)
+{
+    size_t arc = 0;
+    add(HEAD);
+    for (size_t p = 0; p < places; p++) {
+        add_place(p, 1);
+    }
+    for (size_t t = 0; t < transitions; t++) {
+        add_transition(t, action);
+    }
+    for (size_t t = 0; t < transitions; t++) {
+        for (size_t p = 0; p < places; p++) {
+            add_arc(arc++, "\" source=\"p", p, "\" target=\"t", t);
+        }
+        for (size_t p = 0; p < places; p++) {
+            add_arc(arc++, "\" source=\"t", t, "\" target=\"p", p);
+        }
+    }
+    add(TAIL);
+    return text();
+}
+
+/* A room of the exact size, or with bytes after it that are not lent. Every
+ * byte is filled, so that one that is written shows. A room of size 0 without
+ * such bytes is NULL. */
+static const uint8_t FILLER = 0xA5;
+enum { BEHIND = 64 };
+
+static uint8_t *filled(size_t len)
+{
+    uint8_t *room = len > 0 ? (uint8_t *)malloc(len) : NULL;
+    if (len > 0 && room == NULL) {
+        puts("no memory");
+        exit(1);
+    }
+    if (len > 0) {
+        memset(room, FILLER, len);
+    }
+    return room;
+}
+
+/* What stands in the room is `written` and then the filler. */
+static void stands(const char *what, const uint8_t *room, size_t len, table written)
+{
+    size_t same = 0;
+    while (same < len && room[same] == (same < written.len ? written.bytes[same] : FILLER)) {
+        same++;
+    }
+    expect(what, "same bytes in the room", len, same);
+}
+
+/* `written` is NOTHING where the call is refused. */
+static void pnml_write(const char *what, uint32_t places, uint64_t marking, table net,
+                       size_t room_len, uint32_t number, uint64_t record, table written)
+{
+    for (size_t behind = 0; behind <= BEHIND; behind += BEHIND) {
+        uint8_t *room = filled(room_len + behind);
+        uint64_t found_record = UNWRITTEN;
+        uint64_t found_length = UNWRITTEN;
+        expect(what, "number", number,
+               desk_pnml_write_bytes(places, marking, net.bytes, net.len, room, room_len,
+                                     &found_record, &found_length));
+        expect(what, "record", record, found_record);
+        expect(what, "length", written.len, found_length);
+        stands(what, room, room_len + behind, written);
+        free(room);
+    }
+}
+
+/* Places and marking are 0 and `written` is NOTHING where the call is refused. */
+static void pnml_read(const char *what, table from, size_t room_len, uint32_t number,
+                      uint64_t offset, uint32_t places, uint64_t marking, table written)
+{
+    for (size_t behind = 0; behind <= BEHIND; behind += BEHIND) {
+        uint8_t *room = filled(room_len + behind);
+        uint64_t found_offset = UNWRITTEN;
+        uint32_t found_places = (uint32_t)UNWRITTEN;
+        uint64_t found_marking = UNWRITTEN;
+        uint64_t found_length = UNWRITTEN;
+        expect(what, "number", number,
+               desk_pnml_read_bytes(from.bytes, from.len, room, room_len, &found_offset,
+                                    &found_places, &found_marking, &found_length));
+        expect(what, "offset", offset, found_offset);
+        expect(what, "places", places, found_places);
+        expect(what, "marking", marking, found_marking);
+        expect(what, "length", written.len, found_length);
+        stands(what, room, room_len + behind, written);
+        free(room);
+    }
+}
+
+/* A refused reading, with room enough. */
+static void unreadable(const char *what, table from, uint32_t number, uint64_t offset)
+{
+    pnml_read(what, from, DESK_TRANSITIONS_MAX * DESK_TRANSITION_BYTES, number, offset, 0, 0,
+              NOTHING);
+}
+
+static void pnml_written(void)
+{
+    table r = net_r(3), r_text = text_of(HEAD, R_INSIDE, TAIL);
+    uint64_t top = UINT64_C(1) << 63;
+    size_t len = r_text.len;
+    expect("R", "length", 739, len);
+    pnml_write("R, exact room", 3, 3, r, len, DESK_GRANTED, 0, r_text);
+    pnml_write("R, one byte more", 3, 3, r, len + 1, DESK_GRANTED, 0, r_text);
+    pnml_write("R, much more", 3, 3, r, 10 * len, DESK_GRANTED, 0, r_text);
+    pnml_write("R, one byte short", 3, 3, r, len - 1, DESK_SHORT_ROOM, 0, NOTHING);
+    pnml_write("R, one byte of room", 3, 3, r, 1, DESK_SHORT_ROOM, 0, NOTHING);
+    pnml_write("R, no room", 3, 3, r, 0, DESK_SHORT_ROOM, 0, NOTHING);
+
+    table least = empty_table(DESK_TRANSITION_BYTES);
+    add(HEAD);
+    add_place(0, 0);
+    add_transition(0, 0);
+    add(TAIL);
+    table least_text = text();
+    pnml_write("the least net", 1, 0, least, least_text.len, DESK_GRANTED, 0, least_text);
+
+    table most = full_net(64, 64, 65535), most_text = full_text(64, 64, 65535);
+    expect("the largest net", "length", DESK_PNML_MAX, most_text.len);
+    pnml_write("the largest net", 64, UINT64_MAX, most, DESK_PNML_MAX, DESK_GRANTED, 0, most_text);
+    pnml_write("the largest net, short", 64, UINT64_MAX, most, DESK_PNML_MAX - 1, DESK_SHORT_ROOM,
+               0, NOTHING);
+
+    /* The refusals come before 12, in the order 1, 2, 3, 7. */
+    for (size_t room = 0; room <= 1000; room += 1000) {
+        pnml_write("places 0", 0, 3, NOTHING, room, DESK_BAD_ASK, 0, NOTHING);
+        pnml_write("places 65", 65, 3, r, room, DESK_BAD_ASK, 0, NOTHING);
+        pnml_write("places 259", 259, 3, r, room, DESK_BAD_ASK, 0, NOTHING);
+        pnml_write("no net", 3, 8, NOTHING, room, DESK_BAD_NET_SIZE, 0, NOTHING);
+        pnml_write("two places", 2, 8, r, room, DESK_BAD_TRANSITION, 1, NOTHING);
+        pnml_write("spare byte", 3, 8, changed(r, 66, 1), room, DESK_BAD_TRANSITION, 2, NOTHING);
+        pnml_write("marking beyond", 3, 8, r, room, DESK_BAD_MARKING, 0, NOTHING);
+        pnml_write("bit 63 of 63", 63, top, r, room, DESK_BAD_MARKING, 0, NOTHING);
+    }
+    for (size_t i = 0; i < 6; i++) {
+        static const size_t sizes[6] = {1, 23, 25, 71, 73, 65 * DESK_TRANSITION_BYTES};
+        table other = resized(r, sizes[i]);
+        pnml_write("net size", 3, 3, other, 1000, DESK_BAD_NET_SIZE, 0, NOTHING);
+    }
+}
+
+/* A text with white space after every '>' but that of <text>. */
+static table spaced(table from)
+{
+    static const char space[4] = {' ', '\t', '\r', '\n'};
+    size_t count = 0, at = 0;
+    for (size_t i = 0; i < from.len; i++) {
+        count += from.bytes[i] == '>';
+    }
+    table t = empty_table(from.len + 5 * count);
+    for (size_t i = 0; i < from.len; i++) {
+        t.bytes[at++] = from.bytes[i];
+        if (from.bytes[i] != '>' || (i >= 5 && memcmp(from.bytes + i - 5, "<text>", 6) == 0)) {
+            continue;
+        }
+        for (size_t k = 0; k <= i % 5; k++) {
+            t.bytes[at++] = (uint8_t)space[(i + k) % 4];
+        }
+    }
+    return resized(t, at);
+}
+
+static void pnml_reread(void)
+{
+    table r = net_r(3), r_text = text_of(HEAD, R_INSIDE, TAIL);
+    pnml_read("R, exact room", r_text, r.len, DESK_GRANTED, 0, 3, 3, r);
+    pnml_read("R, one byte more", r_text, r.len + 1, DESK_GRANTED, 0, 3, 3, r);
+    pnml_read("R, much more", r_text, 100 * r.len, DESK_GRANTED, 0, 3, 3, r);
+    pnml_read("R, one byte short", r_text, r.len - 1, DESK_SHORT_ROOM, 0, 0, 0, NOTHING);
+    pnml_read("R, one record", r_text, 24, DESK_SHORT_ROOM, 0, 0, 0, NOTHING);
+    pnml_read("R, no room", r_text, 0, DESK_SHORT_ROOM, 0, 0, 0, NOTHING);
+    pnml_read("R with white space", spaced(r_text), r.len, DESK_GRANTED, 0, 3, 3, r);
+
+    table most = full_net(64, 64, 65535), most_text = full_text(64, 64, 65535);
+    pnml_read("the largest net", most_text, most.len, DESK_GRANTED, 0, 64, UINT64_MAX, most);
+    pnml_read("the largest net, short", most_text, most.len - 1, DESK_SHORT_ROOM, 0, 0, 0, NOTHING);
+    pnml_read("the largest net with white space", spaced(most_text), most.len, DESK_GRANTED, 0, 64,
+              UINT64_MAX, most);
+
+    /* 13, then 1, then 2, then 12. */
+    for (size_t room = 0; room <= 1000; room += 1000) {
+        static const size_t sizes[8][3] = {{0, 0, 1}, {0, 1, 1}, {65, 1, 1}, {65, 65, 1},
+                                           {300, 0, 1}, {1, 0, 2}, {64, 65, 2}, {1, 300, 2}};
+        for (size_t i = 0; i < 8; i++) {
+            for (size_t damage = 0; damage < 2; damage++) {
+                add(HEAD);
+                for (size_t p = 0; p < sizes[i][0]; p++) {
+                    add_place(p, p & 1);
+                }
+                for (size_t t = 0; t < sizes[i][1]; t++) {
+                    add_transition(t, t);
+                }
+                add(TAIL);
+                add(damage ? "x" : "");
+                table from = text();
+                pnml_read("places and transitions", from, room,
+                          damage ? (uint32_t)DESK_BAD_PNML : (uint32_t)sizes[i][2],
+                          damage ? from.len - 1 : 0, 0, 0, NOTHING);
+            }
+        }
+    }
+    unreadable("no text", NOTHING, DESK_BAD_PNML, 0);
+    pnml_read("no text and no room", NOTHING, 0, DESK_BAD_PNML, 0, 0, 0, NOTHING);
+}
+
+static void pnml_cut_short(void)
+{
+    table r_text = text_of(HEAD, R_INSIDE, TAIL);
+    for (size_t len = 0; len < r_text.len; len++) {
+        unreadable("cut short", resized(r_text, len), DESK_BAD_PNML, len);
+    }
+}
+
+/* A text of HEAD, places, transitions, `before` and `after`, which is hopeless
+ * from byte `at` of `after` on. */
+typedef struct {
+    size_t places, transitions;
+    const char *before, *after;
+    size_t at;
+} damage;
+
+#define ARC(number, source, target) \
+    "<arc id=\"a" #number "\" source=\"" #source "\" target=\"" #target "\"/>"
+#define PLACE "<place id=\"p0\"><initialMarking><text>"
+#define TRANSITION "<transition id=\"t0\"><name><text>"
+
+static void pnml_damaged(void)
+{
+    static const damage cases[] = {
+        {0, 0, "", "", 0},
+        {0, 0, "", "\xA0", 0},
+        {0, 0, "", "</page></net></pnml", 19},
+        {0, 0, "", "</page ></net></pnml>", 6},
+        {0, 0, TAIL, "\n\t \r<", 4},
+        {0, 0, "", PLACE " 1", 37},
+        {0, 0, "", PLACE "1 <", 38},
+        {0, 0, "", PLACE "2", 37},
+        {0, 0, "", PLACE "01", 38},
+        {0, 0, "", PLACE "10", 38},
+        {0, 0, "", PLACE "</text>", 37},
+        {0, 0, "", "<place id=\"p1\"", 12},
+        {0, 0, "", "<place id=\"p00\"", 13},
+        {0, 0, "", "<place  id=\"p0\"", 7},
+        {10, 0, "", "<place id=\"p1\"", 13},
+        {10, 0, "", "<place id=\"p11\"", 13},
+        {10, 0, "", "<place id=\"p100\"", 14},
+        {1, 0, "", TRANSITION "65535</", 39},
+        {1, 0, "", TRANSITION "65536<", 36},
+        {1, 0, "", TRANSITION "65540<", 36},
+        {1, 0, "", TRANSITION "655350<", 37},
+        {1, 0, "", TRANSITION "00<", 33},
+        {1, 0, "", TRANSITION "<", 32},
+        {0, 0, "", "<arc", 1},
+        {1, 0, "", "<arc", 1},
+        {0, 1, "", "<arc", 1},
+        {1, 1, "", "<place", 1},
+        {1, 1, ARC(0, p0, t0), "<transition", 1},
+        {1, 1, ARC(0, p0, t0), "<place", 1},
+        {3, 2, "", "<arc id=\"a1", 10},
+        {3, 2, "", "<arc id=\"a0\" source=\"p7", 22},
+        {3, 2, "", "<arc id=\"a0\" source=\"p0\" target=\"t12", 35},
+        {12, 12, "", "<arc id=\"a0\" source=\"p12", 23},
+        {12, 12, ARC(0, p5, t11), "<arc id=\"a1\" source=\"p4", 22},
+        {12, 12, ARC(0, p5, t11), "<arc id=\"a1\" source=\"p1\"", 23},
+        {12, 12, ARC(0, p5, t11), "<arc id=\"a1\" source=\"p10", 24},
+        {12, 12, ARC(0, p5, t3), ARC(1, p4, t3), 34},
+        {12, 12, ARC(0, p5, t3), ARC(1, p4, t1), 35},
+        {12, 12, ARC(0, p5, t3), ARC(1, p4, t11), 39},
+        {12, 12, ARC(0, p5, t3), ARC(1, p5, t3), 34},
+        {12, 12, ARC(0, t3, p5), ARC(1, p0, t3), 34},
+        {12, 12, ARC(0, t3, p5), ARC(1, t3, p5), 34},
+        {12, 12, ARC(0, t3, p5), ARC(1, t3, p1), 35},
+        {12, 12, ARC(0, t3, p5), ARC(1, t2, p1), 22},
+        {12, 12, ARC(0, t3, p5), ARC(1, t1, p1), 23},
+        {12, 12, ARC(0, t11, p5), ARC(1, p6, t11), 21},
+        {12, 12, ARC(0, t11, p11), "<a", 1},
+    };
+    for (size_t i = 0; i < sizeof cases / sizeof cases[0]; i++) {
+        const damage *c = &cases[i];
+        add(HEAD);
+        for (size_t p = 0; p < c->places; p++) {
+            add_place(p, 0);
+        }
+        for (size_t t = 0; t < c->transitions; t++) {
+            add_transition(t, 0);
+        }
+        add(c->before);
+        size_t before = grown;
+        add(c->after);
+        unreadable(c->after, text(), DESK_BAD_PNML, before + c->at);
+    }
+    unreadable("a space first", text_of(" ", HEAD, TAIL), DESK_BAD_PNML, 0);
+    unreadable("a declaration", text_of("<?xml version=\"1.0\"?>", HEAD, TAIL), DESK_BAD_PNML, 1);
+    unreadable("a zero after the text", resized(text_of(HEAD, TAIL, ""), 160), DESK_BAD_PNML, 159);
+}
+
 /* The tables of "R holds 2" as files, to be compared with the other places that
  * have them: 0 where they are written. */
 static int write_table(const char *folder, const char *name, table t)
@@ -478,6 +874,14 @@ int main(int argc, char **argv)
     labels();
     give_back();
     full_files();
+    give_back();
+    pnml_written();
+    give_back();
+    pnml_reread();
+    give_back();
+    pnml_cut_short();
+    give_back();
+    pnml_damaged();
     give_back();
     if (failed > 0) {
         printf("%u checks passed, %u failed\n", passed, failed);

@@ -1,4 +1,5 @@
-// The desk terminal's functions for C: the tree check, the single firing, the check of two category files and the place of a label.
+// The desk terminal's functions for C: the tree check, the single firing, the check of two category files, the place of a label, and PNML texts
+// written and read.
 // Each out-parameter is written at every call.
 ghost use mathlib.Core.Path.{_≡_};
 ghost use lib.ListN.{take, drop};
@@ -7,6 +8,9 @@ ghost use Rattle.category.specs.Faults as categories;
 ghost use Rattle.category.specs.Labels as labels;
 ghost use Rattle.checker.specs.Outcomes as outcomes;
 ghost use Rattle.checker.specs.Demand as demand;
+ghost use Rattle.pnml_shape.specs.Theorem as theorem;
+ghost use Rattle.pnml_write.specs.Answer as writing;
+ghost use Rattle.pnml_read.specs.Answer as reading;
 use checker::Verdict;
 
 // The tree check's answer in document 01's numbers: 0 where granted; the record, the node or the number of nodes.
@@ -97,4 +101,45 @@ pub extern "C" fn desk_label(
     *file = place.file;
     *offset = place.offset;
     *length = place.length;
+}
+
+// Writes the PNML text of a net with a marking at the start of the room, whose other bytes stay: 0 with the text's length, or the refusal
+// with its record; a refused call writes nothing.
+#[no_mangle]
+pub extern "C" fn desk_pnml_write(
+    places: u32,
+    marking: u64,
+    net: &[u8],
+    room: &mut [u8],
+    record: &mut u64,
+    length: &mut u64,
+) -> u32
+    ensures { λ r. let a = writing.writeAnswer places marking (now (net .entry)) (now (room .entry)) in ⌜ (r ≡ a .number) × (now («record» .exit) ≡ a .place) × (now (length .exit) ≡ a .length) × (now (room .exit) ≡ a .room) ⌝ }
+{
+    let written = pnml_write::written_numbers(pnml_write::write(places, marking, net, room));
+    *record = written.place;
+    *length = written.length;
+    written.number
+}
+
+// Reads a PNML text and puts its transition records at the start of the room, whose other bytes stay: 0 with places, marking and the bytes of
+// the records, or the refusal with the offset; a refused call writes nothing. Where the refusal is 13, the text leaves the shape at the offset.
+#[no_mangle]
+pub extern "C" fn desk_pnml_read(
+    text: &[u8],
+    room: &mut [u8],
+    offset: &mut u64,
+    places: &mut u32,
+    marking: &mut u64,
+    length: &mut u64,
+) -> u32
+    ensures answer { λ r. let a = reading.readAnswer (theorem.reading (now (text .entry))) (now (room .entry)) in ⌜ (r ≡ a .number) × (now (offset .exit) ≡ a .place) × (now (places .exit) ≡ a .places) × (now (marking .exit) ≡ a .marking) × (now (length .exit) ≡ a .length) × (now (room .exit) ≡ a .room) ⌝ }
+    ensures exact { λ r. ⌜ theorem.Right (now (text .entry)) (theorem.reading (now (text .entry))) ⌝ }
+{
+    let read = pnml_read::read_numbers(pnml_read::read(text, room));
+    *offset = read.place;
+    *places = read.places;
+    *marking = read.marking;
+    *length = read.length;
+    read.number
 }

@@ -1,3 +1,2 @@
 -- The definitions that the contracts of `line` cite.
-pub mod Text
 pub mod Line

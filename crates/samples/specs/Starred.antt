@@ -12,7 +12,7 @@ use Rattle.walk.specs.declared.Walk.{Walk}
 use Rattle.walk.specs.State.{empty}
 use Rattle.walk.specs.Calls.{loadWalk, fireAnswer, fireWalk, readMarking, readCount}
 use Rattle.checker.specs.Outcomes.{checkOutcome}
-use Rattle.line.specs.Text.{bytes}
+use Rattle.texts.specs.Text.{bytes}
 use Rattle.line.specs.Line.{lineOf}
 use Rattle.sample_nets.specs.Tables.{transition, netR}
 use Rattle.sample_trees.specs.Tables.{formulasR, ask, treeR, treeFails}

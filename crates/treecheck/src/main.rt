@@ -1,14 +1,14 @@
 // Reads a tree with its ask, net and formulas, and writes what the check says of it as one line. With no argument the files are ASK, NET,
 // FORMULA and TREE in the working folder; with four, they are the paths in that order. With any other number of arguments it writes
 // nothing but its usage, to standard error.
-mod files;
+mod inputs;
 
 use files::Got;
 use libc::STDERR_FILENO;
 use libc::STDOUT_FILENO;
 use line::Input;
 
-// Writes a line, or tells that it cannot.
+// Writes a text to standard output, or tells that it cannot.
 fn tell(text: &[u8]) {
     if !io::write_all(STDOUT_FILENO, text) {
         os::fail(b"write");
@@ -32,22 +32,22 @@ fn tell_check(ask: &[u8], net: &[u8], formulas: &[u8], tree: &[u8]) {
 // Reads all four files, and then checks.
 fn run(named: bool) {
     let mut ask = files::room();
-    let Got::Whole(a) = files::read_input(Input::Ask, named, &mut ask) else {
+    let Got::Whole(a) = inputs::read_input(Input::Ask, named, &mut ask) else {
         tell_unread(Input::Ask);
         return;
     };
     let mut net = files::room();
-    let Got::Whole(n) = files::read_input(Input::Net, named, &mut net) else {
+    let Got::Whole(n) = inputs::read_input(Input::Net, named, &mut net) else {
         tell_unread(Input::Net);
         return;
     };
     let mut formulas = files::room();
-    let Got::Whole(f) = files::read_input(Input::Formula, named, &mut formulas) else {
+    let Got::Whole(f) = inputs::read_input(Input::Formula, named, &mut formulas) else {
         tell_unread(Input::Formula);
         return;
     };
     let mut tree = files::room();
-    let Got::Whole(t) = files::read_input(Input::Tree, named, &mut tree) else {
+    let Got::Whole(t) = inputs::read_input(Input::Tree, named, &mut tree) else {
         tell_unread(Input::Tree);
         return;
     };

@@ -40,6 +40,26 @@ mod c {
             offset: *mut u32,
             length: *mut u32,
         );
+        pub fn desk_pnml_write(
+            places: u32,
+            marking: u64,
+            net: *const u8,
+            net_len: usize,
+            room: *mut u8,
+            room_len: usize,
+            record: *mut u64,
+            length: *mut u64,
+        ) -> u32;
+        pub fn desk_pnml_read(
+            text: *const u8,
+            text_len: usize,
+            room: *mut u8,
+            room_len: usize,
+            offset: *mut u64,
+            places: *mut u32,
+            marking: *mut u64,
+            length: *mut u64,
+        ) -> u32;
     }
 }
 
@@ -120,4 +140,46 @@ pub fn label(translation: &[u8], house: &[u8], action: u16) -> (u32, u32, u32) {
         );
     }
     (file, offset, length)
+}
+
+/// The number, the record and the length.
+pub fn pnml_write(places: u32, marking: u64, net: &[u8], room: &mut [u8]) -> (u32, u64, u64) {
+    let mut record = UNWRITTEN;
+    let mut length = UNWRITTEN;
+    // SAFETY: as in `check`.
+    let number = unsafe {
+        c::desk_pnml_write(
+            places,
+            marking,
+            net.as_ptr(),
+            net.len(),
+            room.as_mut_ptr(),
+            room.len(),
+            &mut record,
+            &mut length,
+        )
+    };
+    (number, record, length)
+}
+
+/// The number, the offset, the places, the marking and the length.
+pub fn pnml_read(text: &[u8], room: &mut [u8]) -> (u32, u64, u32, u64, u64) {
+    let mut offset = UNWRITTEN;
+    let mut places = UNWRITTEN as u32;
+    let mut marking = UNWRITTEN;
+    let mut length = UNWRITTEN;
+    // SAFETY: as in `check`.
+    let number = unsafe {
+        c::desk_pnml_read(
+            text.as_ptr(),
+            text.len(),
+            room.as_mut_ptr(),
+            room.len(),
+            &mut offset,
+            &mut places,
+            &mut marking,
+            &mut length,
+        )
+    };
+    (number, offset, places, marking, length)
 }

@@ -1,5 +1,6 @@
 //! The cases of the benchmark.
 
+use std::cell::RefCell;
 use std::hint::black_box;
 use std::path::Path;
 
@@ -8,7 +9,7 @@ use generate::categories::{borrower, named};
 use generate::encode::{self, Transition};
 use generate::families::{self, NET_R};
 use reference::category::CATEGORIES;
-use reference::{Refusal, category, check, net};
+use reference::{Refusal, category, check, net, pnml};
 
 type Call = Box<dyn Fn() -> u64>;
 
@@ -28,7 +29,7 @@ impl Bench {
 /// A name and what makes the case.
 type Named = (&'static str, fn() -> Bench);
 
-pub const CASES: [Named; 14] = [
+pub const CASES: [Named; 19] = [
     ("tree: R, 23 nodes", || tree_bench(families::r_holds())),
     ("tree: trail of 32767", || {
         tree_bench(families::trail_chain(32_767))
@@ -58,6 +59,17 @@ pub const CASES: [Named; 14] = [
     }),
     ("label: full, none", || {
         label_bench(full_file(), full_file(), 5000)
+    }),
+    ("pnml: write R", || write_bench(3, 3, encode::net(&NET_R))),
+    ("pnml: write 8192 arcs", || write_bench(64, 5, net_of(64))),
+    ("pnml: read R", || {
+        read_bench(text(3, 3, &encode::net(&NET_R)))
+    }),
+    ("pnml: read 8192 arcs", || {
+        read_bench(text(64, 5, &net_of(64)))
+    }),
+    ("pnml: read, with space", || {
+        read_bench(spaced(text(64, 5, &net_of(64))))
     }),
 ];
 
@@ -157,6 +169,76 @@ fn label_bench(translation: Vec<u8>, house: Vec<u8>, action: u16) -> Bench {
             let (translation, house) = (black_box(&translation_copy), black_box(&house_copy));
             let label = category::label(translation, house, action);
             mix(label.file, label.offset, label.length)
+        }),
+    }
+}
+
+/// A net of 64 places and transitions, with all arcs of the first transitions.
+pub fn net_of(full: usize) -> Vec<u8> {
+    let transition = |t: usize| Transition {
+        pre: if t < full { u64::MAX } else { 0 },
+        post: if t < full { u64::MAX } else { 0 },
+        action: 1000 * t as u16,
+    };
+    encode::net(&(0..64).map(transition).collect::<Vec<_>>())
+}
+
+/// The most bytes of a written text.
+const TEXT: usize = 400_000;
+
+/// The written text.
+pub fn text(places: u32, marking: u64, net: &[u8]) -> Vec<u8> {
+    let mut room = vec![0; TEXT];
+    let length = pnml::write(places, marking, net, &mut room).expect("a good net");
+    room.truncate(length);
+    room
+}
+
+/// The text with a new line after each tag that may have one.
+fn spaced(text: Vec<u8>) -> Vec<u8> {
+    let text = String::from_utf8(text).expect("a written text");
+    let text = text.replace('>', ">\n").replace("<text>\n", "<text>");
+    text.into_bytes()
+}
+
+pub fn write_bench(places: u32, marking: u64, net: Vec<u8>) -> Bench {
+    let copy = net.clone();
+    let room = RefCell::new(vec![0; TEXT]);
+    let room_copy = room.clone();
+    Bench {
+        archive: Box::new(move || {
+            let room = &mut room.borrow_mut()[..];
+            let answer = archive::pnml_write(places, marking, black_box(&net), black_box(room));
+            two(answer.0, answer.2)
+        }),
+        reference: Box::new(move || {
+            let room = &mut room_copy.borrow_mut()[..];
+            let answer = pnml::write(places, marking, black_box(&copy), black_box(room));
+            answer.map_or_else(
+                |refusal| two(refusal.number, refusal.record),
+                |length| length as u64,
+            )
+        }),
+    }
+}
+
+pub fn read_bench(text: Vec<u8>) -> Bench {
+    let copy = text.clone();
+    let room = RefCell::new([0; 64 * 24]);
+    let room_copy = room.clone();
+    Bench {
+        archive: Box::new(move || {
+            let room = &mut room.borrow_mut()[..];
+            let answer = archive::pnml_read(black_box(&text), black_box(room));
+            two(answer.0, answer.1 ^ answer.3 ^ answer.4)
+        }),
+        reference: Box::new(move || {
+            let room = &mut room_copy.borrow_mut()[..];
+            let answer = pnml::read(black_box(&copy), black_box(room));
+            answer.map_or_else(
+                |refusal| two(refusal.number, refusal.record),
+                |read| read.marking ^ read.length as u64,
+            )
         }),
     }
 }

@@ -3,7 +3,8 @@
 //! bench                            every case: medians and their ratio
 //! bench list                       the names of the cases
 //! bench one CASE SIDE TIMES        one case on one side (archive, reference)
-//! bench growth                     cost by nodes, depth and transitions
+//! bench growth                     cost by nodes, depth and transitions, and by
+//!                                  length of text
 //! bench tables FOLDER              the tables of the cases as files, for pair/
 
 mod cases;
@@ -11,7 +12,7 @@ mod measure;
 
 use std::path::Path;
 
-use cases::{Bench, CASES, tree_bench};
+use cases::{Bench, CASES, net_of, read_bench, text, tree_bench, write_bench};
 use generate::cases::TreeCase;
 use generate::families;
 use measure::{medians, time_text};
@@ -78,6 +79,16 @@ fn growth() {
     grow(transitions.map(|count| (count, families::wide_tree(20, count))));
     println!("by children (rule 24, 64 transitions)");
     grow([5, 10, 20, 39].map(|width| (width, families::wide_tree(width, 64))));
+    let full = [0, 1, 4, 16, 64];
+    println!("by length of text (writing)");
+    grow_texts(full.map(|t| (text_of(t).len(), write_bench(64, 5, net_of(t)))));
+    println!("by length of text (reading)");
+    grow_texts(full.map(|t| (text_of(t).len(), read_bench(text_of(t)))));
+}
+
+/// The text of a net with all arcs of the first transitions.
+fn text_of(full: usize) -> Vec<u8> {
+    text(64, 5, &net_of(full))
 }
 
 /// A line for each size: the time on both sides, for each node and in all.
@@ -88,15 +99,32 @@ fn grow(cases: impl IntoIterator<Item = (usize, TreeCase)>) {
     );
     for (size, case) in cases {
         let nodes = case.tree.len() / reference::check::NODE;
-        let bench = tree_bench(case);
-        bench.agree();
-        let (archive, reference) = medians(&bench);
-        println!(
-            "  {size:>7} {nodes:>7} {:>12} {:>12} {:>12} {:>12}",
-            time_text(archive),
-            time_text(archive / nodes as f64),
-            time_text(reference),
-            time_text(reference / nodes as f64)
-        );
+        print!("  {size:>7}");
+        times(nodes, &tree_bench(case));
     }
+}
+
+/// The same for each byte.
+fn grow_texts(cases: impl IntoIterator<Item = (usize, Bench)>) {
+    println!(
+        "  {:>7} {:>12} {:>12} {:>12} {:>12}",
+        "bytes", "archive", "a byte", "reference", "a byte"
+    );
+    for (length, bench) in cases {
+        print!(" ");
+        times(length, &bench);
+    }
+}
+
+/// The rest of a line: how many parts, and the times in all and for each.
+fn times(parts: usize, bench: &Bench) {
+    bench.agree();
+    let (archive, reference) = medians(bench);
+    println!(
+        " {parts:>7} {:>12} {:>12} {:>12} {:>12}",
+        time_text(archive),
+        time_text(archive / parts as f64),
+        time_text(reference),
+        time_text(reference / parts as f64)
+    );
 }

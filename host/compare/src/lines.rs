@@ -5,10 +5,13 @@ use std::process::ExitCode;
 use generate::cases::TreeCase;
 use generate::categories::LabelCase;
 use generate::firings::FiringCase;
+use generate::pnml::{ReadCase, WriteCase};
 use reference::check::Verdict;
 use reference::{category, check, net};
 
-fn hex(bytes: &[u8]) -> String {
+use crate::drawings::{self, Answer};
+
+pub fn hex(bytes: &[u8]) -> String {
     if bytes.is_empty() {
         return "-".to_owned();
     }
@@ -53,6 +56,17 @@ pub fn firing(case: &FiringCase, expected: (u32, u64, u64), found: (u32, u64, u6
     let net = hex(&case.net);
     let (expected, found) = (three(expected), three(found));
     format!("firing {places} {marking} {net} {transition} = {expected} but {found}")
+}
+
+pub fn write(case: &WriteCase, expected: &Answer, found: &Answer) -> String {
+    let (places, marking, room) = (case.places, case.marking, case.room);
+    let net = hex(&case.net);
+    format!("pnml_write {places} {marking} {net} {room} = {expected} but {found}")
+}
+
+pub fn read(case: &ReadCase, expected: &Answer, found: &Answer) -> String {
+    let (text, room) = (hex(&case.text), case.room);
+    format!("pnml_read {text} {room} = {expected} but {found}")
 }
 
 fn three((a, b, c): (u32, u64, u64)) -> String {
@@ -107,6 +121,26 @@ fn answers(kind: &str, input: &str) -> (String, String) {
             let found = archive_labels(&translation, &house, action);
             (found, reference_labels(&translation, &house, action))
         }
+        "pnml_write" => {
+            let case = WriteCase {
+                places: fields[0].parse().expect("places"),
+                marking: fields[1].parse().expect("a marking"),
+                net: bytes(fields[2]),
+                room: fields[3].parse().expect("a room"),
+            };
+            let found = drawings::archive_write(&case);
+            let expected = drawings::reference_write(&case);
+            (found.to_string(), expected.to_string())
+        }
+        "pnml_read" => {
+            let case = ReadCase {
+                text: bytes(fields[0]),
+                room: fields[1].parse().expect("a room"),
+            };
+            let found = drawings::archive_read(&case);
+            let expected = drawings::reference_read(&case);
+            (found.to_string(), expected.to_string())
+        }
         _ => {
             let places = fields[0].parse().expect("places");
             let marking = fields[1].parse().expect("a marking");
@@ -129,6 +163,8 @@ pub fn vectors(folder: &str) -> ExitCode {
         ("tree", "trees"),
         ("label", "labels"),
         ("firing", "firings"),
+        ("pnml_write", "pnml_write_1"),
+        ("pnml_read", "pnml_read_1"),
     ] {
         let path = format!("{folder}/{name}.txt");
         let text = std::fs::read_to_string(&path).expect("the vectors are readable");
@@ -153,7 +189,7 @@ pub fn replay(file: &str) -> ExitCode {
     let text = std::fs::read_to_string(file).expect("the file is readable");
     let mut failed = false;
     for line in text.lines() {
-        let start = ["tree ", "label ", "firing "]
+        let start = ["tree ", "label ", "firing ", "pnml_write ", "pnml_read "]
             .iter()
             .find_map(|kind| line.find(kind));
         let Some((kind, input)) = start.and_then(|start| line[start..].split_once(' ')) else {

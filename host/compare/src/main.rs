@@ -4,6 +4,7 @@
 //! compare vectors FOLDER   the archive against the vectors
 //! compare replay FILE      lines as this program prints them for a difference
 
+mod drawings;
 mod lines;
 mod tally;
 
@@ -13,6 +14,8 @@ use std::time::Instant;
 use generate::cases::{Case, Generator, Kind, TreeCase};
 use generate::categories::LabelCase;
 use generate::firings::FiringCase;
+use generate::pnml::{ReadCase, WriteCase, read_case, write_case};
+use generate::prng::Prng;
 use reference::check::{Input, NODE, Node};
 use reference::meaning::{Graph, evaluate};
 use reference::rules::HOLDS;
@@ -22,6 +25,8 @@ use tally::Tally;
 
 /// The most markings of a graph on which the meaning is evaluated.
 const MARKINGS: usize = 3000;
+/// Of so many cases, one more is a net to write and one a text to read.
+const DRAWINGS: u64 = 8;
 
 fn main() -> ExitCode {
     let arguments: Vec<String> = std::env::args().skip(1).collect();
@@ -46,8 +51,13 @@ fn number(text: &str) -> u64 {
 fn generated(cases: u64, seed: u64) -> ExitCode {
     let start = Instant::now();
     let mut generator = Generator::new(seed);
+    let mut drawings = Prng::new(seed);
     let mut tally = Tally::default();
-    for _ in 0..cases {
+    for case in 0..cases {
+        if case % DRAWINGS == 0 {
+            compare_write(&mut tally, &write_case(&mut drawings));
+            compare_read(&mut tally, &read_case(&mut drawings));
+        }
         match generator.case() {
             Case::Tree(kind, case) => compare_tree(&mut tally, kind, &case),
             Case::Label(case) => compare_labels(&mut tally, &case),
@@ -143,5 +153,23 @@ fn compare_firing(tally: &mut Tally, case: &FiringCase) {
     tally.answer(expected.0);
     if found != expected {
         tally.difference(case.net.len(), || lines::firing(case, expected, found));
+    }
+}
+
+fn compare_write(tally: &mut Tally, case: &WriteCase) {
+    let expected = drawings::reference_write(case);
+    let found = drawings::archive_write(case);
+    tally.write(expected.number());
+    if found != expected {
+        tally.difference(case.net.len(), || lines::write(case, &expected, &found));
+    }
+}
+
+fn compare_read(tally: &mut Tally, case: &ReadCase) {
+    let expected = drawings::reference_read(case);
+    let found = drawings::archive_read(case);
+    tally.read(expected.number());
+    if found != expected {
+        tally.difference(case.text.len(), || lines::read(case, &expected, &found));
     }
 }

@@ -8,6 +8,10 @@ const ANSWERS: [u32; 19] = [
     0, 1, 2, 3, 4, 5, 6, 7, 8, 9, 10, 20, 21, 22, 23, 24, 25, 26, 41,
 ];
 
+/// The answers of the writer and of the reader of PNML text that must occur.
+const WRITES: [u32; 6] = [0, 1, 2, 3, 7, 12];
+const READS: [u32; 5] = [0, 1, 2, 12, 13];
+
 /// How many differences and contradictions are printed.
 const PRINTED: usize = 5;
 
@@ -47,6 +51,19 @@ impl Default for Counts {
     }
 }
 
+impl Counts {
+    fn text(&self, numbers: &[u32]) -> String {
+        let count = |&n: &u32| format!("{n}:{}", self.0[n as usize]);
+        numbers.iter().map(count).collect::<Vec<_>>().join(" ")
+    }
+
+    /// Those of the numbers that never occurred.
+    fn missing(&self, name: &str, numbers: &[u32]) -> Vec<String> {
+        let missing = numbers.iter().filter(|&&n| self.0[n as usize] == 0);
+        missing.map(|n| format!("{name} {n}")).collect()
+    }
+}
+
 #[derive(Default)]
 pub struct Tally {
     kinds: [u64; KINDS.len()],
@@ -56,6 +73,8 @@ pub struct Tally {
     pub firings: u64,
     rules: Counts,
     answers: Counts,
+    writes: Counts,
+    reads: Counts,
     pub evaluated: u64,
     pub unevaluated: u64,
     pub refused_valid: u64,
@@ -75,6 +94,14 @@ impl Tally {
 
     pub fn answer(&mut self, number: u32) {
         self.answers.0[number as usize] += 1;
+    }
+
+    pub fn write(&mut self, number: u32) {
+        self.writes.0[number as usize] += 1;
+    }
+
+    pub fn read(&mut self, number: u32) {
+        self.reads.0[number as usize] += 1;
     }
 
     pub fn rule(&mut self, number: u8) {
@@ -104,11 +131,9 @@ impl Tally {
         let rule = |&r: &u8| format!("{r}:{}", self.rules.0[usize::from(r)]);
         println!("  {}", RULES.iter().map(rule).collect::<Vec<_>>().join(" "));
         println!("answers:");
-        let answer = |&a: &u32| format!("{a}:{}", self.answers.0[a as usize]);
-        println!(
-            "  {}",
-            ANSWERS.iter().map(answer).collect::<Vec<_>>().join(" ")
-        );
+        println!("  {}", self.answers.text(&ANSWERS));
+        println!("  nets written: {}", self.writes.text(&WRITES));
+        println!("  texts read: {}", self.reads.text(&READS));
         println!(
             "accepted trees with the meaning evaluated: {}, graph too large: {}",
             self.evaluated, self.unevaluated
@@ -136,11 +161,11 @@ impl Tally {
 
     fn missing(&self) -> Vec<String> {
         let rules = RULES.iter().filter(|&&r| self.rules.0[usize::from(r)] == 0);
-        let answers = ANSWERS.iter().filter(|&&a| self.answers.0[a as usize] == 0);
-        let rules = rules.map(|r| format!("rule {r}"));
-        rules
-            .chain(answers.map(|a| format!("answer {a}")))
-            .collect()
+        let mut missing: Vec<String> = rules.map(|r| format!("rule {r}")).collect();
+        missing.extend(self.answers.missing("answer", &ANSWERS));
+        missing.extend(self.writes.missing("writer's answer", &WRITES));
+        missing.extend(self.reads.missing("reader's answer", &READS));
+        missing
     }
 
     pub fn passed(&self) -> bool {

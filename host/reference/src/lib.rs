@@ -1,6 +1,7 @@
 //! An independent implementation of document 01: the single firing, the
 //! category files, the tree check, the program's line, and the meaning of
-//! formulas on the graph of reachable markings.
+//! formulas on the graph of reachable markings. Of document 02: nets as PNML
+//! text (F-1).
 
 pub mod bytes;
 pub mod category;
@@ -8,9 +9,12 @@ pub mod check;
 pub mod formula;
 pub mod meaning;
 pub mod net;
+pub mod pnml;
+pub mod pnml_definition;
 pub mod rules;
 
-/// A call refused because of its input: document 01's number and the record.
+/// A call refused because of its input: the documents' number and the record
+/// (with 13 the offset).
 #[derive(Clone, Copy, Debug, PartialEq, Eq)]
 pub struct Refusal {
     pub number: u32,

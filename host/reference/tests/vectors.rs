@@ -1,6 +1,6 @@
 //! The reference agrees with every line of the vectors.
 
-use reference::{category, check, net};
+use reference::{category, check, net, pnml, pnml_definition};
 
 fn lines(name: &str) -> Vec<(Vec<String>, String)> {
     let path = format!("{}/../vectors/{name}", env!("CARGO_MANIFEST_DIR"));
@@ -22,6 +22,24 @@ fn bytes(hex: &str) -> Vec<u8> {
     pairs
         .map(|pair| digit(pair[0]) << 4 | digit(pair[1]))
         .collect()
+}
+
+fn hex(bytes: &[u8]) -> String {
+    if bytes.is_empty() {
+        return "-".to_owned();
+    }
+    bytes.iter().map(|b| format!("{b:02x}")).collect()
+}
+
+/// Room of a field's length, filled with what no call writes all over.
+fn room(length: &str) -> Vec<u8> {
+    vec![0xA5; length.parse().expect("a length")]
+}
+
+/// What stands at the start of the room. The rest must be as it was.
+fn written(room: &[u8], length: usize) -> String {
+    assert!(room[length..].iter().all(|&b| b == 0xA5));
+    hex(&room[..length])
 }
 
 /// Compares each line's answer with the one that `answer` gives.
@@ -69,6 +87,38 @@ fn firings() {
         match net::fire(places, marking, &bytes(&fields[2]), transition) {
             Ok(after) => format!("0 0 {after}"),
             Err(refusal) => format!("{} {} 0", refusal.number, refusal.record),
+        }
+    });
+}
+
+#[test]
+fn written_drawings() {
+    agree("pnml_write_1.txt", 160, |fields| {
+        let places = fields[0].parse().expect("places");
+        let marking = fields[1].parse().expect("a marking");
+        let mut room = room(&fields[3]);
+        let answer = pnml::write(places, marking, &bytes(&fields[2]), &mut room);
+        let (number, record, length) = match answer {
+            Ok(length) => (0, 0, length),
+            Err(refusal) => (refusal.number, refusal.record, 0),
+        };
+        format!("{number} {record} {}", written(&room, length))
+    });
+}
+
+#[test]
+fn read_drawings() {
+    agree("pnml_read_1.txt", 320, |fields| {
+        let (text, mut room) = (bytes(&fields[0]), room(&fields[1]));
+        let read = pnml::read(&text, &mut room);
+        let net = written(&room, read.map_or(0, |read| read.length));
+        if text.len() < 8000 {
+            let found = read.map(|read| (read.places, read.marking, bytes(&net)));
+            assert_eq!(found, pnml_definition::answer(&text, room.len()));
+        }
+        match read {
+            Ok(read) => format!("0 0 {} {} {net}", read.places, read.marking),
+            Err(refusal) => format!("{} {} 0 0 {net}", refusal.number, refusal.record),
         }
     });
 }

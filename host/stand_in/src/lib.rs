@@ -1,12 +1,18 @@
-//! Document 01's C functions over the reference. It stands in for the archive
+//! The C functions of documents 01 and 02 over the reference. It stands in for the archive
 //! while the tests themselves are tried out, and is no part of the gate.
 
-use reference::{category, check, net};
+use reference::{category, check, net, pnml};
 
 /// # Safety
 /// The pointer is that of `len` readable bytes.
 unsafe fn bytes<'a>(pointer: *const u8, len: usize) -> &'a [u8] {
     unsafe { std::slice::from_raw_parts(pointer, len) }
+}
+
+/// # Safety
+/// The pointer is that of `len` bytes that nothing else reads or writes.
+unsafe fn room<'a>(pointer: *mut u8, len: usize) -> &'a mut [u8] {
+    unsafe { std::slice::from_raw_parts_mut(pointer, len) }
 }
 
 /// # Safety
@@ -102,4 +108,59 @@ pub unsafe extern "C" fn desk_label(
         *offset = label.offset;
         *length = label.length;
     }
+}
+
+/// # Safety
+/// See `include/desk.h`.
+#[unsafe(no_mangle)]
+pub unsafe extern "C" fn desk_pnml_write(
+    places: u32,
+    marking: u64,
+    net: *const u8,
+    net_len: usize,
+    text: *mut u8,
+    text_len: usize,
+    record: *mut u64,
+    length: *mut u64,
+) -> u32 {
+    let answer = unsafe {
+        let net = bytes(net, net_len);
+        pnml::write(places, marking, net, room(text, text_len))
+    };
+    let (number, at, written) = match answer {
+        Ok(written) => (0, 0, written as u64),
+        Err(refusal) => (refusal.number, refusal.record, 0),
+    };
+    unsafe {
+        *record = at;
+        *length = written;
+    }
+    number
+}
+
+/// # Safety
+/// See `include/desk.h`.
+#[unsafe(no_mangle)]
+pub unsafe extern "C" fn desk_pnml_read(
+    text: *const u8,
+    text_len: usize,
+    net: *mut u8,
+    net_len: usize,
+    offset: *mut u64,
+    places: *mut u32,
+    marking: *mut u64,
+    length: *mut u64,
+) -> u32 {
+    let answer = unsafe { pnml::read(bytes(text, text_len), room(net, net_len)) };
+    let (number, at, read) = match answer {
+        Ok(read) => (0, 0, read),
+        Err(refusal) => (refusal.number, refusal.record, pnml::Read::default()),
+    };
+    unsafe {
+        *offset = at;
+        *places = read.places;
+        *marking = read.marking;
+        *length = read.length as u64;
+    }
+    number
 }

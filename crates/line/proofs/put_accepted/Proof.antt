@@ -2,8 +2,8 @@
 use native.Mathlib.Omega.{arith}
 use borrow.Author.Needs.{needs}
 use Rattle.line.specs.Line.{acceptedLine}
-use Rattle.line.proofs.Digits.{word-length}
-use Rattle.line.proofs.Buffer.{join}
+use Rattle.texts.proofs.Digits.{word-length}
+use Rattle.texts.proofs.Line.{join}
 use Rattle.line.proofs.put_accepted.Statement.{statement}
 use Rattle.line.proofs.put_accepted.Tie as tie
 

@@ -1,6 +1,6 @@
 -- `treecheck::run` is safe and ends: the bytes that were read lie within their buffers. Assumes nothing.
 use borrow.Author.Needs.{needs}
-use Rattle.treecheck.proofs.Held.{held-inside, held-count}
+use Rattle.files.proofs.Held.{held-inside, held-count}
 use Rattle.treecheck.proofs.run.Statement.{statement}
 use Rattle.treecheck.proofs.run.Tie as tie
 

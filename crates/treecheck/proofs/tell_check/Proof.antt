@@ -2,7 +2,7 @@
 use mathlib.Core.Path.{refl, sym}
 use lib.Seq.{length-take-le}
 use borrow.Author.Needs.{needs}
-use Rattle.line.proofs.Buffer.{whole}
+use Rattle.texts.proofs.Line.{whole}
 use Rattle.treecheck.proofs.tell_check.Statement.{statement}
 use Rattle.treecheck.proofs.tell_check.Tie as tie
 

@@ -1,7 +1,7 @@
 -- `samples::trees::tell` is safe and ends: the line fits the buffer. Assumes nothing.
 use mathlib.Core.Path.{refl, sym}
 use lib.Seq.{length-take-le}
-use Rattle.line.proofs.Buffer.{whole}
+use Rattle.texts.proofs.Line.{whole}
 use borrow.Author.Needs.{needs}
 use Rattle.samples.proofs.trees.tell.Statement.{statement}
 use Rattle.samples.proofs.trees.tell.Tie as tie

@@ -1,0 +1,2 @@
+-- The laws that the proofs of `files` cite.
+pub mod Held

@@ -1,0 +1,2 @@
+-- The definitions that the contracts of `files` cite.
+pub mod Reading

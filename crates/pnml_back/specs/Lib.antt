@@ -1,0 +1,2 @@
+-- Reading what was written.
+pub mod Back

@@ -1,0 +1,2 @@
+-- The laws that the proofs of `pnml_length` cite.
+pub mod Sums

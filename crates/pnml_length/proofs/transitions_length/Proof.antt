@@ -1,0 +1,99 @@
+-- `pnml_length::transitions_length` meets its contract. The invariant: the first t transitions are counted. Assumes nothing.
+use mathlib.Core.Path.{ap}
+use Prim.Native.Nat.{_-_, _*_, _≤_, zero-le}
+use native.Mathlib.Nat.{le-antisymm}
+use native.Mathlib.Omega.{arith}
+use Rattle.net.specs.Table.{actionAt}
+use Rattle.pnml_shape.specs.Drawing as drawing
+use Rattle.pnml_net.specs.Nets.{countdown}
+use Rattle.pnml_put.specs.Put.{transitionsText}
+use Rattle.pnml_put.proofs.Pieces.{transitions-more}
+use Rattle.pnml_length.specs.Count.{Count}
+use Rattle.pnml_length.proofs.Sums.{none, count-more, recount, transition-length}
+use borrow.Author.Needs.{needs}
+use Rattle.pnml_length.proofs.transitions_length.Statement.{statement}
+use Rattle.pnml_length.proofs.transitions_length.Tie as tie
+
+abbrev Inv-loop : tie.InvT-loop
+Inv-loop count net length₀ t₀ length t = (t ≤ count) × Count (68 * t) (transitionsText (actionAt net) t) length
+
+abbrev μ-loop : tie.MeasureT-loop
+μ-loop count net length₀ t₀ length t = count - t
+
+loop-holds : tie.Need-loop-holds Inv-loop μ-loop
+unfolding countdown drawing.transitions drawing.joined
+loop-holds c = (zero-le, none)
+
+mul-u16-at : tie.Need-mul-u16-at Inv-loop μ-loop
+mul-u16-at c = search needs
+
+add-u16-at : tie.Need-add-u16-at Inv-loop μ-loop
+add-u16-at c = search needs
+
+u16-at-requires : tie.Need-u16-at-requires Inv-loop μ-loop
+u16-at-requires c κs = search needs
+
+digits-requires : tie.Need-digits-requires Inv-loop μ-loop
+digits-requires c κs = search needs
+
+add-length : tie.Need-add-length Inv-loop μ-loop
+add-length c = search needs
+
+cast-digits : tie.Need-cast-digits Inv-loop μ-loop
+cast-digits c = search needs
+
+digits-requires-2 : tie.Need-digits-requires-2 Inv-loop μ-loop
+digits-requires-2 c κs = search needs
+
+add-length-2 : tie.Need-add-length-2 Inv-loop μ-loop
+add-length-2 c = search needs
+
+add-length-3 : tie.Need-add-length-3 Inv-loop μ-loop
+add-length-3 c = search needs
+
+add-t : tie.Need-add-t Inv-loop μ-loop
+add-t c = search needs
+
+loop-less : tie.Need-loop-less Inv-loop μ-loop
+loop-less c = search needs
+
+loop-again : tie.Need-loop-again Inv-loop μ-loop
+unfolding actionAt
+loop-again c =
+    let u = c .before .before in
+    let t = u .before in
+    let l = t .before in
+    let f = actionAt (l .before .before .args .net .now) in
+    let d = c .before .digits .ensures in
+    let e = c .digits2 .ensures in (
+      omega (arith, t .loop-test .taken),
+      count-more 68 _ (drawing.joined (drawing.transitionPieces (l .loop .t) (u .u16-at .result))) (l .loop .inv .1)
+          (transition-length _ _ _ _ (d .0) (e .0)) (omega (arith, d .1, e .1)) (omega arith) (transitions-more f _ _ (u .u16-at .ensures)),
+    )
+
+returns : tie.Need-returns Inv-loop μ-loop
+returns c =
+    let l = c .before in
+    let f = actionAt (l .before .before .args .net .now) in
+    recount (omega arith) (ap (λ k. transitionsText f k) (le-antisymm (l .loop .inv .0) (c .loop-test .left))) (l .loop .inv .1)
+
+pub transitions-length-spec : {M : Type 1} → statement M
+transitions-length-spec =
+    tie.close
+    (tie.spec
+    Inv-loop
+    μ-loop
+    loop-holds
+    mul-u16-at
+    add-u16-at
+    u16-at-requires
+    digits-requires
+    add-length
+    cast-digits
+    digits-requires-2
+    add-length-2
+    add-length-3
+    add-t
+    loop-less
+    loop-again
+    returns)

@@ -1,0 +1,2 @@
+-- The definitions that the contracts of `pnml_length` cite.
+pub mod Count

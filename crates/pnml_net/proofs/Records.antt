@@ -1,0 +1,120 @@
+-- A net's records, from its drawing back. Assumes nothing.
+use mathlib.Core.Path.{_≡_, refl, sym, ap, ap₂, _∙_, subst}
+use mathlib.Core.Bool.{true, false}
+use mathlib.Core.List.{List, _++_}
+use Prim.Native.Nat.{ℕ, zero, suc, _+_, _-_, _*_, _^_, _≤_, _<_}
+use native.Mathlib.Nat.{add-assoc, suc-mul, lt-suc-self, lt-trans}
+use native.Mathlib.Omega.{arith}
+use lib.ListN.{length, take, drop, length-drop}
+use lib.Seq.{getD-drop, drop-drop, take-add, take-length}
+use Rattle.tables.specs.Bytes.{field}
+use Rattle.tables.proofs.Numbers.{Bytes, field-lt}
+use Rattle.pnml_shape.specs.Drawing.{Arc}
+use Rattle.tables.proofs.Counts.{record-inside}
+use Rattle.tables.proofs.Entries.{getD-upTo}
+use Rattle.bitset.specs.Sets.{within}
+use Rattle.net.specs.declared.Net.{Net}
+use Rattle.net.specs.Step.{preOf, postOf, actionOf}
+use Rattle.net.specs.Table.{preAt, postAt, actionAt, spareAt, transitions, netOf}
+use Rattle.net.proofs.Answers.{decoded-pre, decoded-post}
+use Rattle.pnml_net.specs.Nets.{countdown, netArcs, drawingOf, setOf, lowBytes, recordBytes, recordsOf}
+use Rattle.pnml_net.proofs.Marks.{countdown-length}
+use Rattle.pnml_net.proofs.Numbers.{low-little}
+use Rattle.pnml_net.proofs.Sets.{set-back}
+use Rattle.pnml_net.proofs.Loaded.{Loaded}
+
+-- ---- one record
+
+module _ (l : List ℕ) (bytes : Bytes l) where
+  low-field : (n at : ℕ) → at + n ≤ length l → lowBytes n (field n at l) ≡ take n (drop at l)
+  unfolding field Bytes
+  low-field n at h =
+      low-little n (drop at l) (λ i. subst (λ (x : ℕ). x < 256) (sym (getD-drop at l i 0)) (bytes (at + i)))
+      (let e : length (drop at l) ≡ length l - at = length-drop at l in omega arith)
+
+  two-parts : (n m at : ℕ) → take (n + m) (drop at l) ≡ take n (drop at l) ++ take m (drop (at + n) l)
+  two-parts n m at = take-add n m (drop at l) ∙ ap (λ x. take n (drop at l) ++ take m x) (drop-drop n at l)
+
+  record-parts : (at : ℕ) → take 24 (drop at l)
+      ≡ take 8 (drop at l) ++ (take 8 (drop (at + 8) l) ++ (take 2 (drop (at + 16) l) ++ take 6 (drop (at + 18) l)))
+  record-parts at =
+      two-parts 8 16 at
+      ∙ ap (λ x. take 8 (drop at l) ++ x)
+      (two-parts 8 8 (at + 8)
+      ∙ ap (λ x. take 8 (drop (at + 8) l) ++ x)
+      (ap (λ (k : ℕ). take 8 (drop k l)) (add-assoc at 8 8)
+      ∙ two-parts 2 6 (at + 16)
+      ∙ ap (λ (k : ℕ). take 2 (drop (at + 16) l) ++ take 6 (drop k l)) (add-assoc at 16 2)))
+
+  record-back : (t : ℕ) → t * 24 + 24 ≤ length l → spareAt l t ≡ 0
+      → recordBytes (preAt l t) (postAt l t) (actionAt l t) ≡ take 24 (drop (t * 24) l)
+  unfolding recordBytes preAt postAt actionAt spareAt
+  record-back t h z =
+      ap₂ _++_ (low-field 8 (t * 24) (omega arith))
+      (ap₂ _++_ (low-field 8 (t * 24 + 8) (omega arith))
+      (ap₂ _++_ (low-field 2 (t * 24 + 16) (omega arith)) (ap (lowBytes 6) (sym z) ∙ low-field 6 (t * 24 + 18) (omega arith))))
+      ∙ sym (record-parts (t * 24))
+
+-- ---- all records
+
+records-upto : (arcs : List Arc) (act : ℕ → ℕ) (l : List ℕ) (n : ℕ)
+    → ((t : ℕ) → t < n → recordBytes (setOf arcs t false) (setOf arcs t true) (act t) ≡ take 24 (drop (t * 24) l))
+    → recordsOf arcs (countdown act n) ≡ take (n * 24) l
+unfolding countdown recordsOf
+records-upto arcs act l zero h = refl
+records-upto arcs act l (suc n) h =
+    ap₂ _++_ (records-upto arcs act l n (λ t k. h t (lt-trans k (lt-suc-self n))))
+    (ap (λ (k : ℕ). recordBytes (setOf arcs k false) (setOf arcs k true) (act n)) (countdown-length act n) ∙ h n (lt-suc-self n))
+    ∙ sym (take-add (n * 24) 24 l)
+    ∙ ap (λ (k : ℕ). take k l) (sym (suc-mul n 24))
+
+-- ---- the records of a net that is loaded
+
+module _ (places m : ℕ) (bytes : List ℕ) (has : Loaded places m bytes) where
+  net : Net
+  net = netOf places bytes
+
+  -- its sets and actions
+  pre-back : (t : ℕ) → t < transitions bytes → setOf (netArcs net (transitions bytes)) t false ≡ preAt bytes t
+  unfolding net netOf
+  pre-back t h =
+      let e : preOf (netOf places bytes) t ≡ preAt bytes t = decoded-pre places bytes (has .size) t h in
+      set-back net (transitions bytes) t false h (ap (within places) e ∙ has .pre t h) ∙ e
+
+  post-back : (t : ℕ) → t < transitions bytes → setOf (netArcs net (transitions bytes)) t true ≡ postAt bytes t
+  unfolding net netOf
+  post-back t h =
+      let e : postOf (netOf places bytes) t ≡ postAt bytes t = decoded-post places bytes (has .size) t h in
+      set-back net (transitions bytes) t true h (ap (within places) e ∙ has .post t h) ∙ e
+
+  action-back : (t : ℕ) → t < transitions bytes → actionOf net t ≡ actionAt bytes t
+  unfolding net netOf
+  action-back t h = getD-upTo (actionAt bytes) (transitions bytes) 64 t h (has .most)
+
+  -- each action is a number of two bytes
+  pub actions-most : Bytes bytes → (t : ℕ) → t < transitions bytes → actionOf (netOf places bytes) t ≤ 65535
+  unfolding net
+  actions-most b t h =
+      let e : actionOf net t ≡ actionAt bytes t = action-back t h in
+      let l : actionAt bytes t < 256 ^ 2 = unfold actionAt in field-lt 2 (t * 24 + 16) bytes b in
+      omega arith
+
+  -- its records, one by one and all
+  inside : (t : ℕ) → t < transitions bytes → t * 24 + 24 ≤ length bytes
+  unfolding transitions
+  inside t h = record-inside 24 (length bytes) t h
+
+  record-at : Bytes bytes → (t : ℕ) → t < transitions bytes
+      → recordBytes (setOf (netArcs net (transitions bytes)) t false) (setOf (netArcs net (transitions bytes)) t true) (actionOf net t)
+      ≡ take 24 (drop (t * 24) bytes)
+  record-at b t h =
+      ap₂ (λ (x y : ℕ). recordBytes x y (actionOf net t)) (pre-back t h) (post-back t h)
+      ∙ ap (recordBytes (preAt bytes t) (postAt bytes t)) (action-back t h)
+      ∙ record-back bytes b t (inside t h) (has .spare t h)
+
+  pub records-loaded : Bytes bytes → recordsOf (drawingOf (netOf places bytes) m .arcs) (drawingOf (netOf places bytes) m .actions) ≡ bytes
+  unfolding net netOf drawingOf
+  records-loaded b =
+      records-upto (netArcs net (transitions bytes)) (actionOf net) bytes (transitions bytes) (record-at b)
+      ∙ ap (λ (n : ℕ). take n bytes) (has .whole)
+      ∙ take-length bytes

@@ -1,0 +1,3 @@
+-- Nets as drawings, and back.
+pub mod Nets
+pub mod Round

@@ -1,0 +1,2 @@
+-- Laws on the reader's answer.
+pub mod Answers

@@ -1,0 +1,57 @@
+// Transition records, put into lent room.
+ghost use mathlib.Core.Path.{_≡_};
+ghost use Prim.Native.Nat.{_+_, _*_, _≤_};
+ghost use lib.ListN.{length};
+ghost use lib.Seq.{sets};
+ghost use Rattle.net.specs.Table.{transitionSize};
+ghost use Rattle.pnml_net.specs.Nets.{lowBytes, recordBytes};
+ghost use Rattle.pnml_records.specs.Records.{recordsBy};
+
+// The bytes of a transition record.
+const RECORD: usize = 24;
+
+// Puts the low bytes of a number, the lowest first.
+fn put_bytes(room: &mut [u8], at: usize, n: usize, x: u64)
+    requires { ⌜ at + n ≤ length (now room) ⌝ }
+    ensures { λ _. ⌜ now (room .exit) ≡ sets (now (room .entry)) at (lowBytes n x) ⌝ }
+{
+    let mut k = at;
+    let mut left = n;
+    let mut v = x;
+    while 0 < left {
+        room[k] = (v % 256) as u8;
+        v /= 256;
+        k += 1;
+        left -= 1;
+    }
+}
+
+// Puts the record of a transition with these sets and action.
+fn put_record(room: &mut [u8], t: usize, pre: u64, post: u64, action: u16)
+    requires { ⌜ t * transitionSize + transitionSize ≤ length (now room) ⌝ }
+    ensures { λ _. ⌜ now (room .exit) ≡ sets (now (room .entry)) (t * transitionSize) (recordBytes pre post action) ⌝ }
+{
+    let at = t * RECORD;
+    put_bytes(room, at, 8, pre);
+    put_bytes(room, at + 8, 8, post);
+    put_bytes(room, at + 16, 2, action as u64);
+    put_bytes(room, at + 18, 6, 0);
+}
+
+// Puts the records of the first transitions.
+pub fn put_records<'a>(
+    room: &mut [u8],
+    count: usize,
+    pre: &'a [u64; 64],
+    post: &'a [u64; 64],
+    action: &'a [u16; 64],
+)
+    requires { ⌜ (count ≤ 64) × (count * transitionSize ≤ length (now room)) ⌝ }
+    ensures { λ _. ⌜ now (room .exit) ≡ sets (now (room .entry)) 0 (recordsBy (now (pre .entry)) (now (post .entry)) (now (action .entry)) count) ⌝ }
+{
+    let mut t = 0;
+    while t < count {
+        put_record(room, t, pre[t], post[t], action[t]);
+        t += 1;
+    }
+}

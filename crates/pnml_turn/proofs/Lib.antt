@@ -1,0 +1,5 @@
+-- Laws on the turns of the reader.
+pub mod Turns
+pub mod Openings
+pub mod Steps
+pub mod Loop

@@ -1,0 +1,67 @@
+-- The loop over the elements: its start, its measure and its end. Assumes nothing.
+use mathlib.Core.Path.{_≡_, refl, sym, ap, _∙_, subst}
+use mathlib.Core.Bool.{Bool, true, false, cond, false≢true}
+use mathlib.Core.List.{List, []}
+use Prim.Native.Nat.{ℕ, zero, suc, _+_, _-_, _≤_, _<_, zero-le, suc-le-suc}
+use native.Mathlib.Omega.{arith}
+use lib.ListN.{length, drop, getD, replicate}
+use Rattle.pnml_shape.specs.Drawing.{Drawing}
+use Rattle.pnml_shape.specs.Machine.{least, turn, scan, drawn, stopped}
+use Rattle.pnml_shape.specs.Theorem.{reading}
+use Rattle.pnml_scan.specs.Serving.{goesOn, Opened}
+use Rattle.pnml_state.proofs.State.{holds-nothing}
+use Rattle.pnml_turn.specs.declared.State.{State}
+use Rattle.pnml_turn.specs.declared.Reading.{Reading}
+use Rattle.pnml_turn.specs.Serving.{outcome, Read, Moved, begun, ReadWhole}
+
+-- a table with no entry
+abbrev pub zeros : ℕ → List ℕ
+zeros n = replicate n 0
+
+zeros-size : (n : ℕ) → length (zeros n) ≡ n
+zeros-size zero = refl
+zeros-size (suc n) = ap suc (zeros-size n)
+
+zeros-zero : (n i : ℕ) → getD (zeros n) i 0 ≡ 0
+zeros-zero zero i = refl
+zeros-zero (suc n) zero = refl
+zeros-zero (suc n) (suc i) = zeros-zero n i
+
+-- before the first element
+pub begins : (t : List ℕ) (ok : Bool) (k : ℕ) → Opened t ok k → (s : State) → s ≡ begun ok k → Read t s (zeros 64) (zeros 64) (zeros 64)
+unfolding outcome goesOn reading least
+begins t ok k h s e =
+    subst (λ x. Read t x (zeros 64) (zeros 64) (zeros 64)) (sym e)
+    (record {
+      drawing = record { marks = []; actions = []; arcs = [] };
+      fits = record { places = refl; transitions = refl; arcs = refl; first = refl };
+      holds = holds-nothing (zeros 64) (zeros 64) (zeros 64) (zeros-size 64) (zeros-size 64) (zeros-size 64) (zeros-zero 64) (zeros-zero 64);
+      same = h .same;
+      bounds = λ g. record { inside = h .inside; places = zero-le; transitions = zero-le; arcs = zero-le; none = λ z. refl };
+    })
+
+-- what is left of the text, where it goes on
+unfoldable pub left : List ℕ → State → ℕ
+left t s = cond (s .going) (suc (length t - s .at)) 0
+
+pub left-less : (t : List ℕ) (s r : State) (pre post action : List ℕ) → s .going ≡ true → s .at ≤ length t → Moved t s r pre post action → left t r < left t s
+unfolding left
+left-less t s r pre post action g i m = subst (λ b. left t r < cond b (suc (length t - s .at)) 0) (sym g) (by (r .going) refl)
+  where
+    by : (b : Bool) → r .going ≡ b → cond b (suc (length t - r .at)) 0 < suc (length t - s .at)
+    by true e = let x = m .further e in let y = m .read .bounds e .inside in omega arith
+    by false e = suc-le-suc zero-le
+
+-- after the last element
+pub ends : (t : List ℕ) (s : State) (pre post action : List ℕ) → Read t s pre post action → s .going ≡ false
+    → ReadWhole t
+    (record { ok = s .ok; at = s .at; places = s .places; transitions = s .transitions; marking = s .marking; pre = pre; post = post; action = action })
+unfolding outcome
+ends t s pre post action h g =
+    record {
+      drawing = h .drawing;
+      places = h .fits .places;
+      transitions = h .fits .transitions;
+      holds = h .holds;
+      same = h .same ∙ ap (λ b. cond b (scan (turn (h .drawing)) (s .at) (drop (s .at) t)) (cond (s .ok) (drawn (h .drawing)) (stopped (s .at)))) g;
+    }

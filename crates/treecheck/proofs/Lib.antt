@@ -1,2 +1,0 @@
--- The laws that the proofs of `treecheck` cite.
-pub mod Held

@@ -1,2 +1,0 @@
--- The definitions that the contracts of `treecheck` cite.
-pub mod Reading
