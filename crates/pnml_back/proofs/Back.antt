@@ -22,6 +22,7 @@ use Rattle.pnml_net.proofs.Round.{round}
 use Rattle.pnml_net.proofs.Loaded.{Loaded, load-has}
 use Rattle.pnml_write.specs.Answer.{textOf}
 use Rattle.pnml_read.specs.Answer.{Answer, refuse, few, granted, drawnAnswer, readAnswer}
+use Rattle.pnml_read.proofs.Answers.{same-answer}
 use Rattle.pnml_back.specs.Back.{same, Back, ReadBack}
 
 few-true : (n : ℕ) → 1 ≤ n → n ≤ 64 → few n ≡ true
@@ -39,12 +40,6 @@ places-few places m bytes e = by (leb 1 places && leb places 64) refl e
     by true q h =
         (leb-true 1 places (and-left (leb 1 places) (leb places 64) q), leb-true places 64 (and-right (leb 1 places) (leb places 64) q))
     by false q h = absurd (let z : _≡_ {A = ℕ} 1 0 = h in omega arith)
-
-same-answer : {p q m n k l : ℕ} {a b : List ℕ} → p ≡ q → m ≡ n → k ≡ l → a ≡ b
-    → _≡_ {A = Answer}
-    (record { number = 0; place = 0; places = p; marking = m; length = k; room = a })
-    (record { number = 0; place = 0; places = q; marking = n; length = l; room = b })
-same-answer e f g h = cc
 
 module _ (places m : ℕ) (bytes : List ℕ) (h : loadFault places m bytes .number ≡ 0) (b : (i : ℕ) → getD bytes i 0 < 256) where
   abbrev d : Drawing

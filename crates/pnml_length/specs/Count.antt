@@ -1,4 +1,4 @@
--- Lengths of texts that are counted. Assumes nothing.
+-- Serves the code's proof: contracts cite it, no meaning depends on it. Lengths of texts that are counted. Assumes nothing.
 use Prim.Native.Nat.{ℕ, _+_, _*_, _≤_}
 use mathlib.Core.Path.{_≡_}
 use mathlib.Core.List.{List}

@@ -1,4 +1,5 @@
--- Texts that are put into a room from an index on. Assumes nothing.
+-- Serves the code's proof: contracts cite it, no meaning depends on it. Texts that are put into a room from an index on.
+-- Assumes nothing.
 use Prim.Native.Nat.{ℕ, zero, suc, _+_, _*_, _≤_}
 use mathlib.Core.Path.{_≡_}
 use mathlib.Core.Bool.{Bool, true, false, cond}

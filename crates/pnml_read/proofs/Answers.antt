@@ -36,7 +36,7 @@ unfolding few
 few-most n b e h = leb-true n 64 (and-right (leb 1 n) (leb n 64) (sym e ∙ not-false b h))
 
 -- answers that agree in what they found
-same-answer : {p q m n k l : ℕ} {a b : List ℕ} → p ≡ q → m ≡ n → k ≡ l → a ≡ b
+pub same-answer : {p q m n k l : ℕ} {a b : List ℕ} → p ≡ q → m ≡ n → k ≡ l → a ≡ b
     → _≡_ {A = Answer}
     (record { number = 0; place = 0; places = p; marking = m; length = k; room = a })
     (record { number = 0; place = 0; places = q; marking = n; length = l; room = b })

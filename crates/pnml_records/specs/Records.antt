@@ -1,4 +1,5 @@
--- The records of transitions whose sets and actions stand in tables. Assumes nothing.
+-- Serves the code's proof: contracts cite it, no meaning depends on it. The records of transitions whose sets
+-- and actions stand in tables. Assumes nothing.
 use Prim.Native.Nat.{ℕ, zero, suc}
 use mathlib.Core.List.{List, [], _++_}
 use lib.ListN.{getD}

@@ -18,8 +18,12 @@ at-most : (b : Bool) (x y n : ℕ) → (b ≡ true → x ≤ n) → (b ≡ false
 at-most true x y n f g = f refl
 at-most false x y n f g = g refl
 
+-- x is below y or equal to it
+below-or-same : (x y : ℕ) → x ≤ y → (x < y) ⊎ (x ≡ y)
+below-or-same x y h = ⊎-elim (λ e. inl (ltb-true x y e)) (λ e. let q = ltb-false x y e in inr (omega arith)) (passed (ltb x y))
+
 -- an arc by its parts
-abbrev made : (t : ℕ) (post : Bool) (p : ℕ) → Arc
+abbrev pub made : (t : ℕ) (post : Bool) (p : ℕ) → Arc
 made t post p = record { transition = t; post = post; place = p }
 
 -- l is lower than a, or has a's rank and a place not above a's
@@ -82,10 +86,7 @@ rises-least P (b ∷ l) a p h =
     (after-next P b)
   where
     by : rank (after P b) ≡ rank b + 1 → after P b .place ≡ 0 → rank b < rank a → AtLeast (after P b) a
-    by e f x = ⊎-elim (λ y. inl (omega arith)) (λ y. inr (omega arith, omega arith)) (cases (rank b + 1) (rank a) (omega arith))
-      where
-        cases : (x y : ℕ) → x ≤ y → (x < y) ⊎ (x ≡ y)
-        cases x y h = ⊎-elim (λ e. inl (ltb-true x y e)) (λ e. let q = ltb-false x y e in inr (omega arith)) (passed (ltb x y))
+    by e f x = ⊎-elim (λ y. inl (omega arith)) (λ y. inr (omega arith, omega arith)) (below-or-same (rank b + 1) (rank a) (omega arith))
 
 pub least-rises : (P : ℕ) (l : List Arc) (a : Arc) → AtLeast (least P l) a → rises l a ≡ true
 unfolding rises least
@@ -167,10 +168,6 @@ post-into l t p k = by (l .post) k
     by false k = zero-le
 
 -- ---- and the other way round
-
--- x is below y or equal to it
-below-or-same : (x y : ℕ) → x ≤ y → (x < y) ⊎ (x ≡ y)
-below-or-same x y h = ⊎-elim (λ e. inl (ltb-true x y e)) (λ e. let q = ltb-false x y e in inr (omega arith)) (passed (ltb x y))
 
 pub pre-back : (l : Arc) (t p : ℕ) → preInto l p ≤ t → AtLeast l (made t false p)
 unfolding preInto rank

@@ -15,7 +15,7 @@ use Rattle.pnml_shape.specs.Shape.{white, allWhite, Spaced, Draws}
 use Rattle.pnml_shape.specs.Machine.{Format, ends, byte, space, either, number, turn, spell, addPlace, addTransition, addArc, placeFormat, transitionFormat, arcFormat, closing, least, arcOpen, preOpen, preFrom, preInto, postInto, opened, start, step, digit, drawn, finish, scan}
 use Rattle.pnml_shape.proofs.Scans.{Reads, Absorbs, spell-on, spell-drawn, white-on, space-absorbs, turn-absorbs, ends-absorbs, space-off, turn-on, either-first, either-second}
 use Rattle.pnml_shape.proofs.Numbers.{number-on}
-use Rattle.pnml_shape.proofs.Arcs.{AtLeast, rises-least, least-place, arc-open, pre-open, pre-from, pre-into, post-from, post-into}
+use Rattle.pnml_shape.proofs.Arcs.{made, AtLeast, rises-least, least-place, arc-open, pre-open, pre-from, pre-into, post-from, post-into}
 
 -- the format reads every spacing of these pieces as this drawing
 abbrev pub Rest : Format → List (List ℕ) → Drawing → Type 0
@@ -121,9 +121,6 @@ abbrev pub postEnds : Drawing → (P T : ℕ) → Arc → Format
 postEnds x P T l =
     number (l .transition) (T - 1) (λ t. spell (bytes "\" target=\"p") (number (postInto l t) (P - 1) (λ p.
     spell (bytes "\"/>") (turn (addArc x (record { transition = t; post = true; place = p }))))))
-
-abbrev pub made : (t : ℕ) (post : Bool) (p : ℕ) → Arc
-made t post p = record { transition = t; post = post; place = p }
 
 pre-read : (x : Drawing) (P T : ℕ) (l : Arc) (t p : ℕ) (s : List ℕ) (d : Drawing) → p < P → t < T → AtLeast l (made t false p)
     → Reads (turn (addArc x (made t false p))) s d

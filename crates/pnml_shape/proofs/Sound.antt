@@ -16,8 +16,8 @@ use Rattle.pnml_shape.specs.Shape.{white, allWhite, Spaced, Draws}
 use Rattle.pnml_shape.specs.Machine.{Format, ends, byte, space, either, number, turn, spell, addPlace, addTransition, addArc, placeFormat, transitionFormat, arcFormat, closing, least, arcOpen, preOpen, preFrom, preInto, postInto, opened, start, scan, drawn}
 use Rattle.pnml_shape.proofs.Scans.{Reads, anywhere, spell-on, spell-drawn, space-drawn, ends-drawn, turn-drawn, either-drawn}
 use Rattle.pnml_shape.proofs.Numbers.{number-drawn}
-use Rattle.pnml_shape.proofs.Arcs.{AtLeast, least-rises, pre-back, post-back}
-use Rattle.pnml_shape.proofs.Complete.{made, endsText, endsFormat, preEnds, postEnds, apart}
+use Rattle.pnml_shape.proofs.Arcs.{made, AtLeast, least-rises, pre-back, post-back}
+use Rattle.pnml_shape.proofs.Complete.{endsText, endsFormat, preEnds, postEnds, apart}
 
 -- ---- spacings
 

@@ -16,8 +16,8 @@ use Rattle.pnml_shape.specs.Shape.{white, allWhite, Spaced}
 use Rattle.pnml_shape.specs.Machine.{Format, ends, byte, space, either, number, digits, turn, spell, addPlace, addTransition, addArc, placeFormat, transitionFormat, arcFormat, closing, least, arcOpen, preOpen, preFrom, preInto, postInto, opened, start, step, digit, possible, stopped, drawn, finish, orStop, scan}
 use Rattle.pnml_shape.proofs.Scans.{Reads, stopped≢drawn, anywhere, moved, spell-on, spell-drawn, space-off, either-second}
 use Rattle.pnml_shape.proofs.Numbers.{number-viable, digits-on}
-use Rattle.pnml_shape.proofs.Arcs.{pre-range, pre-into-range, post-range, post-into-range}
-use Rattle.pnml_shape.proofs.Complete.{closing-rest, made, preEnds, postEnds, endsFormat}
+use Rattle.pnml_shape.proofs.Arcs.{made, pre-range, pre-into-range, post-range, post-into-range}
+use Rattle.pnml_shape.proofs.Complete.{closing-rest, preEnds, postEnds, endsFormat}
 
 -- a format that begins with a byte that passes a test
 pub record Begins (ok : ℕ → Bool) (F : Format) : Type 0 where

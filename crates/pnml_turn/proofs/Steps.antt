@@ -18,10 +18,6 @@ use Rattle.pnml_turn.specs.declared.Turn.the-variants.{Place, Transition
 use Rattle.pnml_turn.specs.declared.State.{State}
 use Rattle.pnml_turn.specs.Serving.{turned, Sane, Alone, Fits, Seen, leastOf, Put, outcome, Bounds, Read, Ahead, Moved, stoppedState, endedState, placedState, transitionState, joinedState}
 
-no-length : {A : Type 0} (l : List A) → length l ≡ 0 → l ≡ []
-no-length [] e = refl
-no-length (x ∷ l) e = absurd (omega arith)
-
 -- with no arc the number of places does not matter to the least arc
 least-any : (P Q : ℕ) (l : List Arc) → length l ≡ 0 → least P l ≡ least Q l
 unfolding least
