@@ -14,7 +14,8 @@ use Rattle.bitset.specs.Sets.{member}
 use Rattle.pnml_put.specs.Put.{arcOf, arcWhere, arcsFrom, bodyText, placesText, transitionsText, arcsText, netText}
 use Rattle.net.specs.Table.{actionAt, tableSized, transitions}
 use Rattle.pnml_put.proofs.Pieces.{place-text, transition-text, post-text, pre-text}
-use Rattle.pnml_put.proofs.Arcs.{arcs-text}
+use Rattle.pnml_put.proofs.Fits.{long, longer}
+use Rattle.pnml_put.proofs.Arcs.{arcs-text, arcs-append}
 use Rattle.pnml_put.proofs.Texts.{net-text}
 use Rattle.pnml_length.specs.Count.{Count, CountArcs}
 
@@ -43,9 +44,6 @@ digits-five n h k = omega (arith, length-more n (omega arith), digits-four (n / 
 
 -- ---- elements
 
-long : (a b c d e : List ℕ) → length (a ++ (b ++ (c ++ (d ++ e)))) ≡ length a + (length b + (length c + (length d + length e)))
-long a b c d e = simp length-append
-
 pub place-length : (i m p d : ℕ) → d ≡ length (decimal i) → 69 + d ≡ length (joined (placePieces i (markOf m p)))
 unfolding markOf
 place-length i m p d e =
@@ -71,10 +69,6 @@ transition-length i a d f e g =
       long (bytes "<transition id=\"t") (decimal i) (bytes "\"><name><text>") (decimal a) (bytes "</text></name></transition>"),
     )
 
-longer : (a b c d e f g : List ℕ)
-    → length (a ++ (b ++ (c ++ (d ++ (e ++ (f ++ g)))))) ≡ length a + (length b + (length c + (length d + (length e + (length f + length g)))))
-longer a b c d e f g = simp length-append
-
 arc-length : (i t p : ℕ) (post : Bool) → 35 + length (decimal i) + length (decimal t) + length (decimal p) ≡ length (arcPiece i (arcOf t post p))
 arc-length i t p true =
     omega (
@@ -90,14 +84,6 @@ arc-length i t p false =
     )
 
 -- ---- arcs
-
--- the text of arcs after others is the text of both
-arcs-append : (n : ℕ) (a l : List Arc) → arcsFrom n l ++ arcsFrom (n + length l) a ≡ arcsFrom n (a ++ l)
-unfolding arcsFrom
-arcs-append n [] l = append-nil (arcsFrom n l)
-arcs-append n (x ∷ a) l =
-    sym (append-assoc (arcsFrom n l) (arcsFrom (n + length l) a) (arcPiece (n + length l + length a) x))
-    ∙ ap₂ (λ (t : List ℕ) (k : ℕ). t ++ arcPiece k x) (arcs-append n a l) (let e = length-append a l in omega arith)
 
 pub no-arcs : (before n : ℕ) → CountArcs 0 before n [] before n
 unfolding arcsFrom

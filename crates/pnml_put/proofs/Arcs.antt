@@ -24,7 +24,7 @@ use Rattle.pnml_put.proofs.Pieces.{joined-append}
 -- ---- texts
 
 -- the text of arcs after others is the text of both
-arcs-append : (n : ℕ) (a l : List Arc) → arcsFrom n l ++ arcsFrom (n + length l) a ≡ arcsFrom n (a ++ l)
+pub arcs-append : (n : ℕ) (a l : List Arc) → arcsFrom n l ++ arcsFrom (n + length l) a ≡ arcsFrom n (a ++ l)
 unfolding arcsFrom
 arcs-append n [] l = append-nil (arcsFrom n l)
 arcs-append n (x ∷ a) l =

@@ -94,7 +94,7 @@ pub opening-long : (length (joined openings) ≤ 139) × (139 ≤ length (joined
 unfolding openings joined
 opening-long = (omega arith, omega arith)
 
-long : (a b c d e : List ℕ) → length (a ++ (b ++ (c ++ (d ++ e)))) ≡ length a + (length b + (length c + (length d + length e)))
+pub long : (a b c d e : List ℕ) → length (a ++ (b ++ (c ++ (d ++ e)))) ≡ length a + (length b + (length c + (length d + length e)))
 long a b c d e = simp length-append
 
 pub place-long : (i m : ℕ) → i < 100 → m < 10 → (length (joined (placePieces i m)) ≤ 71) × (71 ≤ length (joined (placePieces i m)) + 20)
@@ -114,7 +114,7 @@ transition-long i m h k =
     let b = decimal-length 4 m (omega arith) in
     (omega (arith, e, l, a, b), omega (arith, e, l, a, b))
 
-longer : (a b c d e f g : List ℕ)
+pub longer : (a b c d e f g : List ℕ)
     → length (a ++ (b ++ (c ++ (d ++ (e ++ (f ++ g)))))) ≡ length a + (length b + (length c + (length d + (length e + (length f + length g)))))
 longer a b c d e f g = simp length-append
 

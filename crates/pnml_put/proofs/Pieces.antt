@@ -9,6 +9,7 @@ use Rattle.texts.specs.Text.{bytes, decimal}
 use Rattle.pnml_shape.specs.Drawing.{Drawing, placePieces, transitionPieces, arcPiece, openings, closings, places, transitions, arcs}
 use Rattle.pnml_shape.specs.Drawing.{pieces, joined, written}
 use Rattle.pnml_net.specs.Nets.{countdown}
+use Rattle.pnml_net.proofs.Marks.{countdown-length}
 use Rattle.pnml_put.specs.Put.{arcOf}
 
 -- ---- one place, one transition
@@ -59,11 +60,6 @@ pub joined-append : (a b : List (List ℕ)) → joined (a ++ b) ≡ joined a ++ 
 unfolding joined
 joined-append [] b = refl
 joined-append (p ∷ a) b = ap (λ (x : List ℕ). p ++ x) (joined-append a b) ∙ sym (append-assoc p (joined a) (joined b))
-
-countdown-length : (f : ℕ → ℕ) (n : ℕ) → length (countdown f n) ≡ n
-unfolding countdown
-countdown-length f zero = refl
-countdown-length f (suc n) = ap suc (countdown-length f n)
 
 -- one place more
 pub places-more : (f : ℕ → ℕ) (n x : ℕ) → x ≡ f n

@@ -1,6 +1,6 @@
 -- Numbers digit by digit, with no look at their bounds. Assumes nothing.
 use mathlib.Core.Path.{_≡_, refl, sym, ap, _∙_}
-use mathlib.Core.Bool.{Bool, true, false, _&&_, _||_}
+use mathlib.Core.Bool.{Bool, true, false, _&&_, _||_, and-false}
 use mathlib.Core.List.{List, [], _∷_, _++_, append-assoc}
 use Prim.Native.Nat.{ℕ, _+_, _-_, _*_, _≤_, _<_}
 use native.Mathlib.Numerals.{add-one}
@@ -35,10 +35,6 @@ other-high b e = by (ltb b 48) refl e
 pub other-digit : (b : ℕ) → other b ≡ false → digit b ≡ true
 unfolding digit
 other-digit b e = and-intro _ _ (le-leb 48 b (other-low b e)) (le-leb b 57 (other-high b e))
-
-and-false : (b : Bool) → (b && false) ≡ false
-and-false true = refl
-and-false false = refl
 
 pub other-none : (b : ℕ) → other b ≡ true → digit b ≡ false
 unfolding other digit

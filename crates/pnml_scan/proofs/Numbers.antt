@@ -1,7 +1,7 @@
 -- Numbers between two bounds, digit by digit: which digits can follow, and what the scan does with each. For any bounds and text.
 -- Assumes nothing.
 use mathlib.Core.Path.{_≡_, refl, sym, ap, _∙_}
-use mathlib.Core.Bool.{Bool, true, false, cond, _&&_}
+use mathlib.Core.Bool.{Bool, true, false, cond, _&&_, and-false}
 use mathlib.Core.List.{List, _∷_, _++_}
 use mathlib.Core.Option.{none, some}
 use Prim.Native.Nat.{ℕ, zero, suc, _+_, _-_, _*_, _/_, _≤_, _<_}
@@ -18,10 +18,6 @@ use Rattle.pnml_shape.proofs.Numbers.{number-on}
 use Rattle.pnml_quick.specs.Serving.{Read}
 use Rattle.pnml_scan.specs.Serving.{goesOn, Firm, Value, Reading, Rest, DigitAt}
 use Rattle.pnml_scan.proofs.Scan.{taken, refused, at-end, alike}
-
-and-false : (b : Bool) → (b && false) ≡ false
-and-false true = refl
-and-false false = refl
 
 -- ---- which digits can follow
 

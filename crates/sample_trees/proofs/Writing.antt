@@ -7,6 +7,7 @@ use native.Mathlib.Numerals.{add-one}
 use native.Mathlib.Omega.{arith}
 use lib.ListN.{length, drop, getD, set, replicate, drop-of-length-le}
 use lib.Seq.{sets, sets-eq, drop-cons}
+use Rattle.texts.proofs.Buffers.{sets-append}
 use Rattle.sample_bytes.specs.Bytes.{bytes}
 use Rattle.sample_trees.specs.Tables.{node, joined, nodesR, nodeR, treeR, treeFails}
 
@@ -17,13 +18,6 @@ pub node-by : {l₁ l₂ l₃ l₄ l₅ l₆ l₇ l₈ l₉ l₁₀ l₁₁ l₁
     → l₁₀ ≡ sets l₉ 37 (bytes 1 h) → l₁₁ ≡ sets l₁₀ 38 (bytes 1 o) → l₁₂ ≡ sets l₁₁ 39 (bytes 1 t) → l₁₂ ≡ node m a k p f φ n r s h o t
 unfolding bytes node
 node-by m a k p f φ n r s h o t e₁ e₂ e₃ e₄ e₅ e₆ e₇ e₈ e₉ e₁₀ e₁₁ e₁₂ = rw (e₁₂, e₁₁, e₁₀, e₉, e₈, e₇, e₆, e₅, e₄, e₃, e₂, e₁)
-
--- one list stored after another
-sets-append : (vs ws l : List ℕ) (i : ℕ) → sets (sets l i vs) (i + length vs) ws ≡ sets l i (vs ++ ws)
-sets-append [] ws l i = ap (λ (k : ℕ). sets l k ws) (add-zero i)
-sets-append (a ∷ vs) ws l i =
-    let e : i + suc (length vs) ≡ suc i + length vs = add-suc i (length vs) ∙ sym (suc-add i (length vs)) in
-    ap (λ (k : ℕ). sets (sets (set l i a) (suc i) vs) k ws) e ∙ sets-append vs ws (set l i a) (suc i)
 
 -- record k of those of 40 bytes, and then the others
 pub next-record : (l : List ℕ) (rows : List (List ℕ)) (k : ℕ) (r : List ℕ) → k < length rows → r ≡ getD rows k (bytes 40 0) → length r ≡ 40
