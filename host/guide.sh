@@ -6,34 +6,16 @@
 # that file. DESK_LINK may name further libraries, DESK_DOCS another folder with the two pages.
 set -u
 : "${DESK_LIB:?the folder of libdesk.a, as an absolute path}"
-if [ $# -ne 1 ] || [ ! -x "$1" ]; then
-    echo "guide.sh PATH-OF-TREECHECK" >&2
-    exit 2
-fi
-program=$(cd "$(dirname "$1")" && pwd)/$(basename "$1")
+. "$(dirname "$0")/common.sh"
+begin "guide.sh PATH-OF-TREECHECK" "$@"
 root=$(cd "$(dirname "$0")/.." && pwd)
 docs=${DESK_DOCS:-$root/docs}
 libraries=()
 for library in ${DESK_LINK:-}; do libraries+=("-l$library"); done
-work=$(mktemp -d)
-trap 'rm -rf "$work"' EXIT
 
 # The code that the pages must have, and the files whose nodes they must list.
 code="screen.c loader.c rule.sh r.sh editor.sh planner.c search.c terminal.c trail.sh"
 tables="examples/r/TREE"
-
-passed=0
-failed=0
-
-pass() {
-    passed=$((passed + 1))
-}
-
-# fail NAME WHAT
-fail() {
-    failed=$((failed + 1))
-    echo "$1: $2"
-}
 
 # The folder that the pages speak of.
 mkdir -p "$work/page/docs" "$work/page/target/bin" "$work/page/target/staticlib" "$work/blocks"
@@ -144,5 +126,4 @@ for path in $tables; do
     fi
 done
 
-echo "$passed passed, $failed failed"
-[ "$failed" -eq 0 ]
+finish

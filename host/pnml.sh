@@ -3,16 +3,11 @@
 # Written texts are parsed by an XML parser that is not ours, and the net is rebuilt from what it finds. That is Python's xml.etree, or
 # xmllint where there is no python3; PNML_PARSER (python3 or xmllint) chooses.
 set -u
-if [ $# -ne 1 ] || [ ! -x "$1" ]; then
-    echo "pnml.sh PATH-OF-THE-EXECUTABLE" >&2
-    exit 2
-fi
-program=$(cd "$(dirname "$1")" && pwd)/$(basename "$1")
+. "$(dirname "$0")/common.sh"
+begin "pnml.sh PATH-OF-THE-EXECUTABLE" "$@"
 root=$(cd "$(dirname "$0")/.." && pwd)
 r=$root/examples/r
 sample=$root/docs/R.pnml
-work=$(mktemp -d)
-trap 'rm -rf "$work"' EXIT
 case=$work/case
 mkdir "$case"
 
@@ -24,19 +19,6 @@ if [ "$parser" != python3 ] && [ "$parser" != xmllint ]; then
     echo "pnml.sh needs python3 or xmllint" >&2
     exit 2
 fi
-
-passed=0
-failed=0
-
-pass() {
-    passed=$((passed + 1))
-}
-
-# fail NAME WHAT
-fail() {
-    failed=$((failed + 1))
-    echo "$1: $2"
-}
 
 # run ARGUMENT..: the program in the case's folder.
 run() {
@@ -472,5 +454,4 @@ usage "" FILE BACK
 usage readall FILE BACK
 usage rea FILE BACK
 
-echo "$passed passed, $failed failed"
-[ "$failed" -eq 0 ]
+finish

@@ -2,14 +2,9 @@
 # Tests the program `treecheck`: program.sh PATH-OF-THE-EXECUTABLE
 # The samples are written by host/samples (SAMPLES may name its executable).
 set -u
-if [ $# -ne 1 ] || [ ! -x "$1" ]; then
-    echo "program.sh PATH-OF-THE-EXECUTABLE" >&2
-    exit 2
-fi
-program=$(cd "$(dirname "$1")" && pwd)/$(basename "$1")
+. "$(dirname "$0")/common.sh"
+begin "program.sh PATH-OF-THE-EXECUTABLE" "$@"
 host=$(cd "$(dirname "$0")" && pwd)
-work=$(mktemp -d)
-trap 'rm -rf "$work"' EXIT
 
 if [ -n "${SAMPLES:-}" ]; then
     "$SAMPLES" "$work/samples" || exit 2
@@ -17,18 +12,15 @@ else
     (cd "$host" && cargo run --quiet --release -p samples -- "$work/samples") || exit 2
 fi
 
-passed=0
-failed=0
 case=$work/case
 
 # result NAME LINE: the output must be that line and a newline, nothing else.
 result() {
     printf '%s\n' "$2" >"$work/expected"
     if cmp -s "$work/expected" "$work/out"; then
-        passed=$((passed + 1))
+        pass
     else
-        failed=$((failed + 1))
-        echo "$1: expected '$2', got:"
+        fail "$1" "expected '$2', got:"
         head -c 300 "$work/out"
         echo
     fi
@@ -172,5 +164,4 @@ in_folder "a tree without its last node" "broken 20 at $(
     od -An -tu4 -j $((22 * 40 + 24)) -N 4 "$work/samples/r-holds/TREE" | tr -d ' '
 )"
 
-echo "$passed passed, $failed failed"
-[ "$failed" -eq 0 ]
+finish

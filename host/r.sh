@@ -4,14 +4,9 @@
 # They must be, byte for byte, the files of examples/r, those that host/samples writes (SAMPLES may name its executable) and those of
 # the C program (DESK_LIB is the folder of libdesk.a). With a folder, writes the four files there instead: examples/r is made so.
 set -u
-if [ $# -lt 1 ] || [ ! -x "$1" ]; then
-    echo "r.sh PATH-OF-SAMPLES [FOLDER]" >&2
-    exit 2
-fi
-program=$(cd "$(dirname "$1")" && pwd)/$(basename "$1")
+. "$(dirname "$0")/common.sh"
+begin "r.sh PATH-OF-SAMPLES [FOLDER]" "${1:-}"
 host=$(cd "$(dirname "$0")" && pwd)
-work=$(mktemp -d)
-trap 'rm -rf "$work"' EXIT
 names="ASK NET FORMULA TREE"
 
 # The printed bytes of each table, as a file.
@@ -39,14 +34,10 @@ mkdir "$work/terminal"
 gcc -std=c11 -I "${DESK_INCLUDE:-$host/../include}" "$host/terminal/terminal.c" "$DESK_LIB/libdesk.a" -o "$work/program" \
     "${libraries[@]}" && "$work/program" "$work/terminal" || exit 2
 
-failed=0
 # same WHAT FOLDER: the four files are those that are printed.
 same() {
     for name in $names; do
-        if ! cmp "$work/printed/$name" "$2/$name"; then
-            echo "$1: another $name"
-            failed=$((failed + 1))
-        fi
+        cmp "$work/printed/$name" "$2/$name" || fail "$1" "another $name"
     done
 }
 [ "$(wc -c <"$work/printed/TREE")" -eq 920 ] || failed=1
