@@ -51,13 +51,13 @@ fn places_length(count: u32, marking: u64) -> usize
 
 // The length of the transitions of a table.
 fn transitions_length(count: usize, net: &[u8]) -> usize
-    requires { ⌜ (count ≤ 64) × (count * 24 ≤ length (now net)) ⌝ }
+    requires { ⌜ (count ≤ 64) × (count * table.transitionSize ≤ length (now net)) ⌝ }
     ensures { λ r. ⌜ counts.Count (68 * count) (puts.transitionsText (table.actionAt (now (net .entry))) count) r ⌝ }
 {
     let mut length = 0;
     let mut t = 0;
     while t < count {
-        let action = tables::u16_at(net, t * 24 + 16);
+        let action = tables::u16_at(net, t * net::RECORD + 16);
         length += 58 + digits(t) + digits(action as usize);
         t += 1;
     }
@@ -104,13 +104,13 @@ fn arcs_by(tally: Tally, set: u64, t: usize, post: bool, places: usize) -> Tally
 
 // The length of the arcs of a table.
 fn arcs_length(places: usize, transitions: usize, net: &[u8]) -> usize
-    requires { ⌜ (places ≤ 64) × (transitions ≤ 64) × (transitions * 24 ≤ length (now net)) ⌝ }
+    requires { ⌜ (places ≤ 64) × (transitions ≤ 64) × (transitions * table.transitionSize ≤ length (now net)) ⌝ }
     ensures { λ r. ⌜ counts.Count (6400 * transitions) (puts.arcsText (now (net .entry)) places transitions) r ⌝ }
 {
     let mut sum = Tally { length: 0, arcs: 0 };
     let mut t = 0;
     while t < transitions {
-        let from = t * 24;
+        let from = t * net::RECORD;
         let pre = tables::u64_at(net, from);
         let post = tables::u64_at(net, from + 8);
         let half = arcs_by(sum, pre, t, false, places);
@@ -125,7 +125,7 @@ pub fn text_length(places: u32, marking: u64, net: &[u8]) -> usize
     requires { ⌜ (places ≤ 64) × (table.tableSized (now net) ≡ true) ⌝ }
     ensures { λ r. ⌜ r ≡ length (puts.netText (now (net .entry)) places marking) ⌝ }
 {
-    let count = net.len() / 24;
+    let count = net.len() / net::RECORD;
     let a = places_length(places, marking);
     let b = transitions_length(count, net);
     let c = arcs_length(places as usize, count, net);

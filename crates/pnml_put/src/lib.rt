@@ -148,13 +148,13 @@ fn transition(room: &mut [u8], at: usize, i: usize, action: u16) -> usize
 
 // Puts the transitions of a table.
 fn transitions(room: &mut [u8], at: usize, count: usize, net: &[u8]) -> usize
-    requires { ⌜ (at ≤ length (now room)) × (count ≤ 64) × (count * 24 ≤ length (now net)) ⌝ }
+    requires { ⌜ (at ≤ length (now room)) × (count ≤ 64) × (count * table.transitionSize ≤ length (now net)) ⌝ }
     ensures { λ r. ⌜ puts.Fit (65 * count) (now (room .entry)) (now (room .exit)) at (puts.transitionsText (table.actionAt (now (net .entry))) count) r ⌝ }
 {
     let mut next = at;
     let mut t = 0;
     while t < count {
-        next = transition(room, next, t, tables::u16_at(net, t * 24 + 16));
+        next = transition(room, next, t, tables::u16_at(net, t * net::RECORD + 16));
         t += 1;
     }
     next
@@ -292,14 +292,14 @@ fn arcs_at(
 
 // Puts the arcs of a table.
 fn all_arcs(room: &mut [u8], at: usize, places: usize, transitions: usize, net: &[u8]) -> usize
-    requires { ⌜ (at ≤ length (now room)) × (places ≤ 64) × (transitions ≤ 64) × (transitions * 24 ≤ length (now net)) ⌝ }
+    requires { ⌜ (at ≤ length (now room)) × (places ≤ 64) × (transitions ≤ 64) × (transitions * table.transitionSize ≤ length (now net)) ⌝ }
     ensures { λ r. ⌜ puts.Fit (5504 * transitions) (now (room .entry)) (now (room .exit)) at (puts.arcsText (now (net .entry)) places transitions) r ⌝ }
 {
     let mut next = at;
     let mut count = 0;
     let mut t = 0;
     while t < transitions {
-        let from = t * 24;
+        let from = t * net::RECORD;
         let pre = tables::u64_at(net, from);
         let post = tables::u64_at(net, from + 8);
         let spot = arcs_at(room, next, count, pre, post, t, places);
@@ -334,7 +334,7 @@ fn opening(room: &mut [u8]) -> usize
 
 // Puts what stands before the end, and answers the index after it.
 fn body(room: &mut [u8], places: u32, marking: u64, transitions: usize, net: &[u8]) -> usize
-    requires { ⌜ (places ≤ 64) × (transitions ≤ 64) × (transitions * 24 ≤ length (now net)) ⌝ }
+    requires { ⌜ (places ≤ 64) × (transitions ≤ 64) × (transitions * table.transitionSize ≤ length (now net)) ⌝ }
     ensures { λ r. ⌜ puts.Fit (139 + 71 * places + 5569 * transitions) (now (room .entry)) (now (room .exit)) 0 (puts.bodyText (now (net .entry)) places marking transitions) r ⌝ }
 {
     let at = opening(room);
@@ -348,7 +348,7 @@ pub fn text(room: &mut [u8], places: u32, marking: u64, net: &[u8]) -> usize
     requires { ⌜ (places ≤ 64) × (table.tableSized (now net) ≡ true) ⌝ }
     ensures { λ r. ⌜ puts.Whole (159 + 71 * places + 5569 * table.transitions (now (net .entry))) (now (room .entry)) (now (room .exit)) (puts.netText (now (net .entry)) places marking) r ⌝ }
 {
-    let at = body(room, places, marking, net.len() / 24, net);
+    let at = body(room, places, marking, net.len() / net::RECORD, net);
     if room.len() - at < 20 {
         return at;
     }

@@ -42,7 +42,7 @@ pub same-answer : {p q m n k l : ℕ} {a b : List ℕ} → p ≡ q → m ≡ n �
     (record { number = 0; place = 0; places = q; marking = n; length = l; room = b })
 same-answer e f g h = cc
 
-module _ (t : List ℕ) (r : Reading) (h : ReadWhole t r) (room : List ℕ) where
+module _ (t : List ℕ) (r : Reading) (pre post action : List ℕ) (h : ReadWhole t r pre post action) (room : List ℕ) where
   -- 13
   pub left-answer : not (r .ok) ≡ true → answerOf (Left (r .at)) room ≡ readAnswer (reading t) room
   unfolding readAnswer numberOf placeOf foundOf
@@ -92,30 +92,30 @@ module _ (t : List ℕ) (r : Reading) (h : ReadWhole t r) (room : List ℕ) wher
           (lt-ltb (length room) (length (h .drawing .actions) * transitionSize) (let z = h .transitions in omega arith)))
 
       -- the tables' records are the drawing's
-      same-records : recordsBy (r .pre) (r .post) (r .action) (r .transitions) ≡ recordsOf (h .drawing .arcs) (h .drawing .actions)
+      same-records : recordsBy pre post action (r .transitions) ≡ recordsOf (h .drawing .arcs) (h .drawing .actions)
       same-records =
           let p = few-most (r .places) b f n in
           let q = few-most (r .transitions) c g m in
           let y = h .places in
           let z = h .transitions in
-          ap (recordsBy (r .pre) (r .post) (r .action)) (sym (h .transitions))
-          ∙ records-by (h .drawing .arcs) (h .drawing .actions) (r .pre) (r .post) (r .action)
+          ap (recordsBy pre post action) (sym (h .transitions))
+          ∙ records-by (h .drawing .arcs) (h .drawing .actions) pre post action
           (λ t l. (h .holds .pres (omega arith) t (omega arith), h .holds .posts (omega arith) t (omega arith)))
           (λ t l. h .holds .actions t (omega arith) l)
 
       -- granted
       pub granted-answer : r .transitions * transitionSize ≤ length room → (after : List ℕ)
-          → after ≡ sets room 0 (recordsBy (r .pre) (r .post) (r .action) (r .transitions)) → (x : ReadResult)
+          → after ≡ sets room 0 (recordsBy pre post action (r .transitions)) → (x : ReadResult)
           → x ≡ Granted (record { places = r .places; marking = r .marking; length = r .transitions * transitionSize })
           → answerOf x after ≡ readAnswer (reading t) room
       unfolding granted numberOf placeOf foundOf
       granted-answer l after i x q =
           let p = few-most (r .places) b f n in
           let y = h .places in
-          let size = by-length (r .pre) (r .post) (r .action) (r .transitions) in
+          let size = by-length pre post action (r .transitions) in
           ap (λ o. answerOf o after) q
           ∙ same-answer (sym (h .places)) (h .holds .marks (omega arith)) (sym (ap (λ (k : ℕ). k * transitionSize) (h .transitions)))
-          (i ∙ sets-front room (recordsBy (r .pre) (r .post) (r .action) (r .transitions)) (omega arith)
+          (i ∙ sets-front room (recordsBy pre post action (r .transitions)) (omega arith)
           ∙ ap₂ (λ (k : List ℕ) (j : ℕ). k ++ drop j room) same-records (size ∙ sym (ap (λ (k : ℕ). k * transitionSize) (h .transitions))))
           ∙ sym
           (drawn-both

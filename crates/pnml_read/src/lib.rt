@@ -3,9 +3,6 @@ ghost use mathlib.Core.Path.{_≡_};
 ghost use Rattle.pnml_shape.specs.Theorem as theorem;
 ghost use Rattle.pnml_read.specs.Answer as answers;
 
-// The bytes of a transition record.
-const RECORD: usize = 24;
-
 // What a text gives: how many places, their marking, and the bytes of the records.
 pub struct Found {
     pub places: u32,
@@ -44,7 +41,10 @@ pub fn read(text: &[u8], room: &mut [u8]) -> ReadResult
     ensures answer { λ r. ⌜ answers.answerOf r (now (room .exit)) ≡ answers.readAnswer (theorem.reading (now (text .entry))) (now (room .entry)) ⌝ }
     ensures exact { λ r. ⌜ theorem.Right (now (text .entry)) (theorem.reading (now (text .entry))) ⌝ }
 {
-    let t = pnml_turn::read_text(text);
+    let mut pre = [0u64; 64];
+    let mut post = [0u64; 64];
+    let mut action = [0u16; 64];
+    let t = pnml_turn::read_text(text, &mut pre, &mut post, &mut action);
     if !t.ok {
         return ReadResult::Left(t.at);
     }
@@ -54,11 +54,11 @@ pub fn read(text: &[u8], room: &mut [u8]) -> ReadResult
     if !few(t.transitions) {
         return ReadResult::Transitions;
     }
-    let length = t.transitions * RECORD;
+    let length = t.transitions * net::RECORD;
     if room.len() < length {
         return ReadResult::Short;
     }
-    pnml_records::put_records(room, t.transitions, &t.pre, &t.post, &t.action);
+    pnml_records::put_records(room, t.transitions, &pre, &post, &action);
     granted(t.places as u32, t.marking, length)
 }
 

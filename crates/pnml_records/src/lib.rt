@@ -7,9 +7,6 @@ ghost use Rattle.net.specs.Table.{transitionSize};
 ghost use Rattle.pnml_net.specs.Nets.{lowBytes, recordBytes};
 ghost use Rattle.pnml_records.specs.Records.{recordsBy};
 
-// The bytes of a transition record.
-const RECORD: usize = 24;
-
 // Puts the low bytes of a number, the lowest first.
 fn put_bytes(room: &mut [u8], at: usize, n: usize, x: u64)
     requires { ⌜ at + n ≤ length (now room) ⌝ }
@@ -31,7 +28,7 @@ fn put_record(room: &mut [u8], t: usize, pre: u64, post: u64, action: u16)
     requires { ⌜ t * transitionSize + transitionSize ≤ length (now room) ⌝ }
     ensures { λ _. ⌜ now (room .exit) ≡ sets (now (room .entry)) (t * transitionSize) (recordBytes pre post action) ⌝ }
 {
-    let at = t * RECORD;
+    let at = t * net::RECORD;
     put_bytes(room, at, 8, pre);
     put_bytes(room, at + 8, 8, post);
     put_bytes(room, at + 16, 2, action as u64);

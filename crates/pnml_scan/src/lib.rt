@@ -227,7 +227,8 @@ fn next_blank(text: &[u8], had: bool, at: usize) -> usize
     blank(text, at)
 }
 
-// A number from lo to hi.
+// A number from lo to hi. One that is not found at once is left to `number`, which goes by digits and stays a call: so this much is made
+// part of the code that calls it.
 fn next_number(text: &[u8], had: bool, at: usize, lo: usize, hi: usize) -> Numbered
     requires { ⌜ at ≤ length (now text) ⌝ }
     ensures { λ r. ⌜ serving.Value (now (text .entry)) had at lo hi (r .ok) (r .at) (r .value) ⌝ }
@@ -247,7 +248,7 @@ fn next_number(text: &[u8], had: bool, at: usize, lo: usize, hi: usize) -> Numbe
             value: n.value,
         };
     }
-    number_by_digits(text, at, lo, hi)
+    number(text, at, lo, hi)
 }
 
 // White space and the end of the text.

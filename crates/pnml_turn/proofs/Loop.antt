@@ -12,10 +12,9 @@ use Rattle.pnml_scan.specs.Serving.{goesOn, Opened}
 use Rattle.pnml_state.proofs.State.{holds-nothing}
 use Rattle.pnml_turn.specs.declared.State.{State}
 use Rattle.pnml_turn.specs.declared.Reading.{Reading}
-use Rattle.pnml_turn.specs.Serving.{outcome, Read, Moved, begun, ReadWhole}
+use Rattle.pnml_turn.specs.Serving.{outcome, Read, Moved, begun, noEntry, ReadWhole}
 
--- a table with no entry
-abbrev pub zeros : ℕ → List ℕ
+abbrev zeros : ℕ → List ℕ
 zeros n = replicate n 0
 
 zeros-size : (n : ℕ) → length (zeros n) ≡ n
@@ -27,15 +26,22 @@ zeros-zero zero i = refl
 zeros-zero (suc n) zero = refl
 zeros-zero (suc n) (suc i) = zeros-zero n i
 
+size : {l : List ℕ} → l ≡ noEntry → length l ≡ 64
+size e = ap length e ∙ zeros-size 64
+
+blank : {l : List ℕ} → l ≡ noEntry → (i : ℕ) → getD l i 0 ≡ 0
+blank e i = ap (λ (l : List ℕ). getD l i 0) e ∙ zeros-zero 64 i
+
 -- before the first element
-pub begins : (t : List ℕ) (ok : Bool) (k : ℕ) → Opened t ok k → (s : State) → s ≡ begun ok k → Read t s (zeros 64) (zeros 64) (zeros 64)
+pub begins : (t : List ℕ) (ok : Bool) (k : ℕ) → Opened t ok k → (s : State) → s ≡ begun ok k → (pre post action : List ℕ)
+    → (pre ≡ noEntry) × (post ≡ noEntry) × (action ≡ noEntry) → Read t s pre post action
 unfolding outcome goesOn reading least
-begins t ok k h s e =
-    subst (λ x. Read t x (zeros 64) (zeros 64) (zeros 64)) (sym e)
+begins t ok k h s e pre post action (p, q, a) =
+    subst (λ x. Read t x pre post action) (sym e)
     (record {
       drawing = record { marks = []; actions = []; arcs = [] };
       fits = record { places = refl; transitions = refl; arcs = refl; first = refl };
-      holds = holds-nothing (zeros 64) (zeros 64) (zeros 64) (zeros-size 64) (zeros-size 64) (zeros-size 64) (zeros-zero 64) (zeros-zero 64);
+      holds = holds-nothing pre post action (size p) (size q) (size a) (blank p) (blank q);
       same = h .same;
       bounds = λ g. record { inside = h .inside; places = zero-le; transitions = zero-le; arcs = zero-le; none = λ z. refl };
     })
@@ -54,8 +60,7 @@ left-less t s r pre post action g i m = subst (λ b. left t r < cond b (suc (len
 
 -- after the last element
 pub ends : (t : List ℕ) (s : State) (pre post action : List ℕ) → Read t s pre post action → s .going ≡ false
-    → ReadWhole t
-    (record { ok = s .ok; at = s .at; places = s .places; transitions = s .transitions; marking = s .marking; pre = pre; post = post; action = action })
+    → ReadWhole t (record { ok = s .ok; at = s .at; places = s .places; transitions = s .transitions; marking = s .marking }) pre post action
 unfolding outcome
 ends t s pre post action h g =
     record {

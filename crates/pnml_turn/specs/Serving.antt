@@ -4,7 +4,7 @@ use Prim.Native.Nat.{ℕ, _+_, _≤_, _<_}
 use mathlib.Core.Path.{_≡_}
 use mathlib.Core.Bool.{Bool, true, false, cond, not}
 use mathlib.Core.List.{List, []}
-use lib.ListN.{length, drop}
+use lib.ListN.{length, drop, replicate}
 use Rattle.pnml_shape.specs.Drawing.{Arc, Drawing}
 use Rattle.pnml_shape.specs.Machine.{Format, placeFormat, transitionFormat, arcFormat, closing, opened, turn, addPlace, addTransition, addArc, after, least, Outcome, stopped, drawn, scan}
 use Rattle.pnml_shape.specs.Theorem.{reading}
@@ -143,10 +143,14 @@ begun g k =
       lowest = 0;
     }
 
+-- a table of 64 entries before anything is kept in it
+abbrev pub noEntry : List ℕ
+noEntry = replicate 64 0
+
 -- the text was read to its end or to the offset where it leaves the shape, and the tables hold what it draws
-pub record ReadWhole (t : List ℕ) (r : Reading) : Type 0 where
+pub record ReadWhole (t : List ℕ) (r : Reading) (pre post action : List ℕ) : Type 0 where
   pub drawing : Drawing
   pub places : length (drawing .marks) ≡ r .places
   pub transitions : length (drawing .actions) ≡ r .transitions
-  pub holds : Holds drawing (r .marking) (r .pre) (r .post) (r .action)
+  pub holds : Holds drawing (r .marking) pre post action
   pub same : reading t ≡ cond (r .ok) (drawn drawing) (stopped (r .at))

@@ -325,17 +325,14 @@ fn advance(
 
 // ---- the whole text
 
-// A text that was read: whether it is of the shape, else the offset where it leaves it; how many places and transitions it has, and, of at
-// most 64 of each, the marking, the sets and the actions.
+// A text that was read: whether it is of the shape, else the offset where it leaves it; how many places and transitions it has, and the
+// marking of at most 64 places.
 pub struct Reading {
     pub ok: bool,
     pub at: usize,
     pub places: usize,
     pub transitions: usize,
     pub marking: u64,
-    pub pre: [u64; 64],
-    pub post: [u64; 64],
-    pub action: [u16; 64],
 }
 
 // The state before the first element.
@@ -356,17 +353,20 @@ fn begin(going: bool, at: usize) -> State
     }
 }
 
-// Reads a text, element by element.
-pub fn read_text(text: &[u8]) -> Reading
-    ensures { λ r. ⌜ serving.ReadWhole (now (text .entry)) r ⌝ }
+// Reads a text, element by element. The lent tables, all zero, get the sets and the actions of at most 64 transitions.
+pub fn read_text(
+    text: &[u8],
+    pre: &mut [u64; 64],
+    post: &mut [u64; 64],
+    action: &mut [u16; 64],
+) -> Reading
+    requires { ⌜ (now pre ≡ serving.noEntry) × (now post ≡ serving.noEntry) × (now action ≡ serving.noEntry) ⌝ }
+    ensures { λ r. ⌜ serving.ReadWhole (now (text .entry)) r (now (pre .exit)) (now (post .exit)) (now (action .exit)) ⌝ }
 {
     let opening = pnml_scan::opening(text);
-    let mut pre = [0u64; 64];
-    let mut post = [0u64; 64];
-    let mut action = [0u16; 64];
     let mut s = begin(opening.ok, opening.at);
     while s.going {
-        s = advance(text, s, &mut pre, &mut post, &mut action);
+        s = advance(text, s, pre, post, action);
     }
     Reading {
         ok: s.ok,
@@ -374,8 +374,5 @@ pub fn read_text(text: &[u8]) -> Reading
         places: s.places,
         transitions: s.transitions,
         marking: s.marking,
-        pre,
-        post,
-        action,
     }
 }

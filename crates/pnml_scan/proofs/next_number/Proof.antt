@@ -16,11 +16,11 @@ returns-2 : tie.Need-returns-2
 returns-2 c =
     value-next (not-false _ (c .before .before .if1 .left)) (value-whole _ _ _ _ _ _ (c .before .whole-number .ensures (c .if2 .taken)))
 
-number-by-digits-requires : tie.Need-number-by-digits-requires
-number-by-digits-requires c κs = search needs
+number-requires : tie.Need-number-requires
+number-requires c κs = search needs
 
 returns-3 : tie.Need-returns-3
-returns-3 c = value-next (not-false _ (c .before .before .before .if1 .left)) (c .number-by-digits .ensures)
+returns-3 c = value-next (not-false _ (c .before .before .before .if1 .left)) (c .number .ensures)
 
 pub next-number-spec : {M : Type 1} → statement M
-next-number-spec = tie.close (tie.spec returns whole-number-requires returns-2 number-by-digits-requires returns-3)
+next-number-spec = tie.close (tie.spec returns whole-number-requires returns-2 number-requires returns-3)

@@ -23,7 +23,7 @@ begin-requires : tie.Need-begin-requires Inv-loop μ-loop
 begin-requires c κs = search needs
 
 loop-holds : tie.Need-loop-holds Inv-loop μ-loop
-loop-holds c = begins _ _ _ (c .before .opening .ensures) _ (c .begin .ensures)
+loop-holds c = begins _ _ _ (c .before .opening .ensures) _ (c .begin .ensures) _ _ _ (c .before .before .before .pre)
 
 advance-requires : tie.Need-advance-requires Inv-loop μ-loop
 advance-requires c κs = (c .before .before .before .before .loop .inv, c .before .before .before .loop-test .taken)
