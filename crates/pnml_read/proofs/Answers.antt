@@ -15,6 +15,7 @@ use Rattle.pnml_shape.specs.Machine.{Outcome, stopped, drawn}
 use Rattle.pnml_shape.specs.Theorem.{reading, Right}
 use Rattle.pnml_shape.proofs.Exact.{exact}
 use Rattle.pnml_net.specs.Nets.{markingOf, recordsOf}
+use Rattle.pnml_scan.specs.Serving.{goesOn, Opened}
 use Rattle.pnml_state.specs.Serving.{Holds}
 use Rattle.pnml_turn.specs.declared.Reading.{Reading}
 use Rattle.pnml_turn.specs.Serving.{ReadWhole}
@@ -30,6 +31,15 @@ use Rattle.pnml_read.specs.Answer.{Answer, refuse, few, granted, drawnAn
 -- the outcome is right for the text
 pub right : (t : List ℕ) → Right t (reading t)
 right t = exact .right t
+
+-- 13 in the opening
+pub opening-answer : (t : List ℕ) (ok : Bool) (k : ℕ) → Opened t ok k → (room : List ℕ) → not ok ≡ true
+    → answerOf (Left k) room ≡ readAnswer (reading t) room
+unfolding reading goesOn readAnswer numberOf placeOf foundOf
+opening-answer t ok k h room e = sym (ap (λ o. readAnswer o room) (h .same ∙ if-false ok _ _ (not-true ok e)))
+
+pub opened : (t : List ℕ) (ok : Bool) (k : ℕ) → Opened t ok k → not ok ≡ false → Opened t true k
+opened t ok k h e = subst (λ b. Opened t b k) (not-false ok e) h
 
 pub few-most : (n : ℕ) (b : Bool) → b ≡ few n → not b ≡ false → n ≤ 64
 unfolding few

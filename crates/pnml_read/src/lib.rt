@@ -1,6 +1,8 @@
 // The reader: places, marking and transition records of a PNML text, the records put into lent room.
 ghost use mathlib.Core.Path.{_≡_};
+ghost use mathlib.Core.Bool.{true};
 ghost use Rattle.pnml_shape.specs.Theorem as theorem;
+ghost use Rattle.pnml_scan.specs.Serving as scans;
 ghost use Rattle.pnml_read.specs.Answer as answers;
 
 // What a text gives: how many places, their marking, and the bytes of the records.
@@ -36,15 +38,15 @@ fn few(n: usize) -> bool
     (1 <= n) & (n <= 64)
 }
 
-// Reads a text: places, marking and the records, which stand at the start of the room; the rest of it stays. A refused call writes nothing.
-pub fn read(text: &[u8], room: &mut [u8]) -> ReadResult
-    ensures answer { λ r. ⌜ answers.answerOf r (now (room .exit)) ≡ answers.readAnswer (theorem.reading (now (text .entry))) (now (room .entry)) ⌝ }
-    ensures exact { λ r. ⌜ theorem.Right (now (text .entry)) (theorem.reading (now (text .entry))) ⌝ }
+// Reads the rest of a text after its opening.
+fn read_opened(text: &[u8], at: usize, room: &mut [u8]) -> ReadResult
+    requires { ⌜ scans.Opened (now text) true at ⌝ }
+    ensures { λ r. ⌜ answers.answerOf r (now (room .exit)) ≡ answers.readAnswer (theorem.reading (now (text .entry))) (now (room .entry)) ⌝ }
 {
     let mut pre = [0u64; 64];
     let mut post = [0u64; 64];
     let mut action = [0u16; 64];
-    let t = pnml_turn::read_text(text, &mut pre, &mut post, &mut action);
+    let t = pnml_turn::read_elements(text, at, &mut pre, &mut post, &mut action);
     if !t.ok {
         return ReadResult::Left(t.at);
     }
@@ -60,6 +62,19 @@ pub fn read(text: &[u8], room: &mut [u8]) -> ReadResult
     }
     pnml_records::put_records(room, t.transitions, &pre, &post, &action);
     granted(t.places as u32, t.marking, length)
+}
+
+// Reads a text: places, marking and the records, which stand at the start of the room; the rest of it stays. A refused call writes nothing.
+pub fn read(text: &[u8], room: &mut [u8]) -> ReadResult
+    ensures answer { λ r. ⌜ answers.answerOf r (now (room .exit)) ≡ answers.readAnswer (theorem.reading (now (text .entry))) (now (room .entry)) ⌝ }
+    ensures exact { λ r. ⌜ theorem.Right (now (text .entry)) (theorem.reading (now (text .entry))) ⌝ }
+{
+    let opening = pnml_scan::opening(text);
+    let at = opening.at;
+    if !opening.ok {
+        return ReadResult::Left(at);
+    }
+    read_opened(text, at, room)
 }
 
 // A text that was read.

@@ -33,10 +33,10 @@ blank : {l : List ℕ} → l ≡ noEntry → (i : ℕ) → getD l i 0 ≡ 0
 blank e i = ap (λ (l : List ℕ). getD l i 0) e ∙ zeros-zero 64 i
 
 -- before the first element
-pub begins : (t : List ℕ) (ok : Bool) (k : ℕ) → Opened t ok k → (s : State) → s ≡ begun ok k → (pre post action : List ℕ)
+pub begins : (t : List ℕ) (k : ℕ) → Opened t true k → (s : State) → s ≡ begun k → (pre post action : List ℕ)
     → (pre ≡ noEntry) × (post ≡ noEntry) × (action ≡ noEntry) → Read t s pre post action
 unfolding outcome goesOn reading least
-begins t ok k h s e pre post action (p, q, a) =
+begins t k h s e pre post action (p, q, a) =
     subst (λ x. Read t x pre post action) (sym e)
     (record {
       drawing = record { marks = []; actions = []; arcs = [] };

@@ -128,10 +128,10 @@ pub record Moved (t : List ℕ) (s r : State) (pre post action : List ℕ) : Typ
 
 -- ---- the whole text
 
-abbrev pub begun : (going : Bool) (at : ℕ) → State
-begun g k =
+abbrev pub begun : (at : ℕ) → State
+begun k =
     record {
-      going = g;
+      going = true;
       ok = false;
       at = k;
       places = 0;

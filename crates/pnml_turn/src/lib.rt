@@ -336,11 +336,11 @@ pub struct Reading {
 }
 
 // The state before the first element.
-fn begin(going: bool, at: usize) -> State
-    ensures { λ r. ⌜ r ≡ serving.begun going at ⌝ }
+fn begin(at: usize) -> State
+    ensures { λ r. ⌜ r ≡ serving.begun at ⌝ }
 {
     State {
-        going,
+        going: true,
         ok: false,
         at,
         places: 0,
@@ -353,18 +353,20 @@ fn begin(going: bool, at: usize) -> State
     }
 }
 
-// Reads a text, element by element. The lent tables, all zero, get the sets and the actions of at most 64 transitions.
-pub fn read_text(
+// Reads the elements of a text, which follow its opening, and its end. The lent tables, all zero, get the sets and the actions of at most 64
+// transitions.
+pub fn read_elements(
     text: &[u8],
+    at: usize,
     pre: &mut [u64; 64],
     post: &mut [u64; 64],
     action: &mut [u16; 64],
 ) -> Reading
+    requires { ⌜ scans.Opened (now text) true at ⌝ }
     requires { ⌜ (now pre ≡ serving.noEntry) × (now post ≡ serving.noEntry) × (now action ≡ serving.noEntry) ⌝ }
     ensures { λ r. ⌜ serving.ReadWhole (now (text .entry)) r (now (pre .exit)) (now (post .exit)) (now (action .exit)) ⌝ }
 {
-    let opening = pnml_scan::opening(text);
-    let mut s = begin(opening.ok, opening.at);
+    let mut s = begin(at);
     while s.going {
         s = advance(text, s, pre, post, action);
     }

@@ -29,7 +29,7 @@ impl Bench {
 /// A name and what makes the case.
 type Named = (&'static str, fn() -> Bench);
 
-pub const CASES: [Named; 19] = [
+pub const CASES: [Named; 21] = [
     ("tree: R, 23 nodes", || tree_bench(families::r_holds())),
     ("tree: trail of 32767", || {
         tree_bench(families::trail_chain(32_767))
@@ -70,6 +70,16 @@ pub const CASES: [Named; 19] = [
     }),
     ("pnml: read, with space", || {
         read_bench(spaced(text(64, 5, &net_of(64))))
+    }),
+    ("pnml: read, refused at 1", || {
+        let declaration = b"<?xml version=\"1.0\"?>";
+        read_bench([&declaration[..], &text(3, 3, &encode::net(&NET_R))].concat())
+    }),
+    ("pnml: read, refused late", || {
+        let mut text = text(64, 5, &net_of(64));
+        let last = text.len() - 1;
+        text[last] = b' ';
+        read_bench(text)
     }),
 ];
 

@@ -1,95 +1,23 @@
 -- `pnml_read::read` meets its contract. Assumes nothing.
-use mathlib.Core.Path.{refl}
-use native.Mathlib.Omega.{arith}
-use Rattle.pnml_read.proofs.Answers.{right, few-most, left-answer, places-answer, transitions-answer, short-answer, granted-answer}
 use borrow.Author.Needs.{needs}
+use Rattle.pnml_read.proofs.Answers.{right, opening-answer, opened}
 use Rattle.pnml_read.proofs.read.Statement.{statement}
 use Rattle.pnml_read.proofs.read.Tie as tie
 
-read-text-requires : tie.Need-read-text-requires
-read-text-requires c κs = (refl, refl, refl)
+opening-requires : tie.Need-opening-requires
+opening-requires c κs = search needs
 
 returns : tie.Need-returns
-returns c = (left-answer _ _ _ _ _ (c .before .before .read-text .ensures) _ (c .if1 .taken), right _)
+returns c = (opening-answer _ _ _ (c .before .before .opening .ensures) _ (c .if1 .taken), right _)
 
-few-requires : tie.Need-few-requires
-few-requires c κs = search needs
-
-returns-2 : tie.Need-returns-2
-returns-2 c =
-    let p = c .before .before in
-    (places-answer _ _ _ _ _ (p .before .before .read-text .ensures) _ (p .if1 .left) _ (c .before .few .ensures) (c .if2 .taken), right _)
-
-few-requires-2 : tie.Need-few-requires-2
-few-requires-2 c κs = search needs
-
-returns-3 : tie.Need-returns-3
-returns-3 c =
-    let q = c .before .before in
-    let p = q .before .before in (
-      transitions-answer _ _ _ _ _ (p .before .before .read-text .ensures) _ (p .if1 .left) _ (q .before .few .ensures) (q .if2 .left) _
-          (c .before .few2 .ensures) (c .if3 .taken),
-      right _,
-    )
-
-mul-length : tie.Need-mul-length
-mul-length c = let z = few-most _ _ (c .before .before .few2 .ensures) (c .before .if3 .left) in omega arith
-
-returns-4 : tie.Need-returns-4
-returns-4 c =
-    let r = c .before .before in
-    let q = r .before .before in
-    let p = q .before .before in (
-      short-answer _ _ _ _ _ (p .before .before .read-text .ensures) _ (p .if1 .left) _ (q .before .few .ensures) (q .if2 .left) _
-          (r .before .few2 .ensures) (r .if3 .left) (c .if4 .taken),
-      right _,
-    )
-
-put-records-requires : tie.Need-put-records-requires
-put-records-requires c κs =
-    let l = c .before .before .before .before in
-    let r = l .before .before in
-    (few-most _ _ (r .before .few2 .ensures) (r .if3 .left), l .if4 .left)
-
-cast-granted : tie.Need-cast-granted
-cast-granted c =
-    let l = c .before .before .before .before .before .before .before .before in
-    let q = l .before .before .before .before in
-    let z = few-most _ _ (q .before .few .ensures) (q .if2 .left) in
-    omega arith
-
-granted-requires : tie.Need-granted-requires
-granted-requires c κs = search needs
+read-opened-requires : tie.Need-read-opened-requires
+read-opened-requires c κs = opened _ _ _ (c .before .before .before .opening .ensures) (c .before .if1 .left)
 
 same-length : tie.Need-same-length
 same-length c = search needs
 
-returns-5 : tie.Need-returns-5
-returns-5 c =
-    let w = c .before .before .before .before in
-    let l = w .before .before .before .before .before in
-    let r = l .before .before in
-    let q = r .before .before in
-    let p = q .before .before in (
-      granted-answer _ _ _ _ _ (p .before .before .read-text .ensures) _ (p .if1 .left) _ (q .before .few .ensures) (q .if2 .left) _
-          (r .before .few2 .ensures) (r .if3 .left) (l .if4 .left) _ (w .put-records .ensures) _ (c .granted .ensures),
-      right _,
-    )
+returns-2 : tie.Need-returns-2
+returns-2 c = (c .before .before .read-opened .ensures, right _)
 
 pub read-spec : {M : Type 1} → statement M
-read-spec =
-    tie.close
-    (tie.spec
-    read-text-requires
-    returns
-    few-requires
-    returns-2
-    few-requires-2
-    returns-3
-    mul-length
-    returns-4
-    put-records-requires
-    cast-granted
-    granted-requires
-    same-length
-    returns-5)
+read-spec = tie.close (tie.spec opening-requires returns read-opened-requires same-length returns-2)
