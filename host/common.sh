@@ -25,6 +25,18 @@ fail() {
     echo "$1: $2"
 }
 
+# line NAME LINE: what the program has written, in $work/out, must be that line and a newline, nothing else.
+line() {
+    printf '%s\n' "$2" >"$work/expected"
+    if cmp -s "$work/expected" "$work/out"; then
+        pass
+    else
+        fail "$1" "expected '$2', got:"
+        head -c 300 "$work/out"
+        echo
+    fi
+}
+
 # The script's last line and status.
 finish() {
     echo "$passed passed, $failed failed"

@@ -25,18 +25,6 @@ run() {
     (cd "$case" && "$program" "$@") >"$work/out" 2>"$work/err" </dev/null
 }
 
-# line NAME LINE: the output must be that line and a newline, nothing else.
-line() {
-    printf '%s\n' "$2" >"$work/expected"
-    if cmp -s "$work/expected" "$work/out"; then
-        pass
-    else
-        fail "$1" "expected '$2', got:"
-        head -c 300 "$work/out"
-        echo
-    fi
-}
-
 # same NAME WHAT FILE FILE: the two files are equal.
 same() {
     if cmp -s "$3" "$4"; then pass; else fail "$1" "$2"; fi

@@ -14,28 +14,16 @@ fi
 
 case=$work/case
 
-# result NAME LINE: the output must be that line and a newline, nothing else.
-result() {
-    printf '%s\n' "$2" >"$work/expected"
-    if cmp -s "$work/expected" "$work/out"; then
-        pass
-    else
-        fail "$1" "expected '$2', got:"
-        head -c 300 "$work/out"
-        echo
-    fi
-}
-
 # in_folder NAME LINE: runs the program in the case's folder.
 in_folder() {
     (cd "$case" && "$program") >"$work/out" 2>/dev/null </dev/null
-    result "$1" "$2"
+    line "$1" "$2"
 }
 
 # by_paths NAME LINE ASK NET FORMULA TREE: runs it with four arguments.
 by_paths() {
     (cd "$work" && "$program" "$3" "$4" "$5" "$6") >"$work/out" 2>/dev/null </dev/null
-    result "$1" "$2"
+    line "$1" "$2"
 }
 
 # start SAMPLE: a fresh copy of a sample.
