@@ -156,7 +156,8 @@ holds-arc d m a pre post action p h =
 -- ---- nothing yet
 
 pub holds-nothing : (pre post action : List ℕ) → length pre ≡ 64 → length post ≡ 64 → length action ≡ 64
-    → ((t : ℕ) → getD pre t 0 ≡ 0) → ((t : ℕ) → getD post t 0 ≡ 0) → Holds (record { marks = []; actions = []; arcs = [] }) 0 pre post action
+    → ((t : ℕ) → t < 64 → getD pre t 0 ≡ 0) → ((t : ℕ) → t < 64 → getD post t 0 ≡ 0)
+    → Holds (record { marks = []; actions = []; arcs = [] }) 0 pre post action
 unfolding markingOf setOf
 holds-nothing pre post action lp lq la p q =
     record {
@@ -164,7 +165,7 @@ holds-nothing pre post action lp lq la p q =
       post-size = lq;
       action-size = la;
       marks = λ l. refl;
-      pres = λ l t k. p t;
-      posts = λ l t k. q t;
+      pres = λ l. p;
+      posts = λ l. q;
       actions = λ t k l. absurd (omega arith);
     }

@@ -1,10 +1,10 @@
 -- The loop over the elements: its start, its measure and its end. Assumes nothing.
 use mathlib.Core.Path.{_≡_, refl, sym, ap, _∙_, subst}
-use mathlib.Core.Bool.{Bool, true, false, cond, false≢true}
+use mathlib.Core.Bool.{Bool, true, false, cond}
 use mathlib.Core.List.{List, []}
-use Prim.Native.Nat.{ℕ, zero, suc, _+_, _-_, _≤_, _<_, zero-le, suc-le-suc}
+use Prim.Native.Nat.{ℕ, suc, _-_, _≤_, _<_, zero-le, suc-le-suc}
 use native.Mathlib.Omega.{arith}
-use lib.ListN.{length, drop, getD, replicate}
+use lib.ListN.{length, drop, getD, length-replicate, getD-replicate}
 use Rattle.pnml_shape.specs.Drawing.{Drawing}
 use Rattle.pnml_shape.specs.Machine.{least, turn, scan, drawn, stopped}
 use Rattle.pnml_shape.specs.Theorem.{reading}
@@ -14,23 +14,11 @@ use Rattle.pnml_turn.specs.declared.State.{State}
 use Rattle.pnml_turn.specs.declared.Reading.{Reading}
 use Rattle.pnml_turn.specs.Serving.{outcome, Read, Moved, begun, noEntry, ReadWhole}
 
-abbrev zeros : ℕ → List ℕ
-zeros n = replicate n 0
-
-zeros-size : (n : ℕ) → length (zeros n) ≡ n
-zeros-size zero = refl
-zeros-size (suc n) = ap suc (zeros-size n)
-
-zeros-zero : (n i : ℕ) → getD (zeros n) i 0 ≡ 0
-zeros-zero zero i = refl
-zeros-zero (suc n) zero = refl
-zeros-zero (suc n) (suc i) = zeros-zero n i
-
 size : {l : List ℕ} → l ≡ noEntry → length l ≡ 64
-size e = ap length e ∙ zeros-size 64
+size e = ap length e ∙ length-replicate {A = ℕ} 64 0
 
-blank : {l : List ℕ} → l ≡ noEntry → (i : ℕ) → getD l i 0 ≡ 0
-blank e i = ap (λ (l : List ℕ). getD l i 0) e ∙ zeros-zero 64 i
+no-entry : {l : List ℕ} → l ≡ noEntry → (i : ℕ) → i < 64 → getD l i 0 ≡ 0
+no-entry e i h = ap (λ (l : List ℕ). getD l i 0) e ∙ getD-replicate {A = ℕ} 64 i 0 0 h
 
 -- before the first element
 pub begins : (t : List ℕ) (k : ℕ) → Opened t true k → (s : State) → s ≡ begun k → (pre post action : List ℕ)
@@ -41,7 +29,7 @@ begins t k h s e pre post action (p, q, a) =
     (record {
       drawing = record { marks = []; actions = []; arcs = [] };
       fits = record { places = refl; transitions = refl; arcs = refl; first = refl };
-      holds = holds-nothing pre post action (size p) (size q) (size a) (blank p) (blank q);
+      holds = holds-nothing pre post action (size p) (size q) (size a) (no-entry p) (no-entry q);
       same = h .same;
       bounds = λ g. record { inside = h .inside; places = zero-le; transitions = zero-le; arcs = zero-le; none = λ z. refl };
     })
