@@ -3,6 +3,7 @@ use mathlib.Core.Path.{_≡_, refl, sym, ap, ap₂, _∙_}
 use mathlib.Core.Bool.{Bool, true, false, cond, not}
 use mathlib.Core.List.{List}
 use Prim.Native.Nat.{ℕ, _≤_, _<_}
+use native.Mathlib.Nat.{le-trans, le-of-eq}
 use native.Mathlib.Omega.{arith}
 use lib.ListN.{length}
 use lib.Dec.{eqb}
@@ -11,6 +12,7 @@ use Rattle.bitset.specs.Sets.{within}
 use Rattle.tables.proofs.Counts.{sized-most}
 use Rattle.tables.proofs.Scans.{scan-passed}
 use Rattle.tables.proofs.Entries.{getD-upTo}
+use Rattle.net.specs.declared.Net.{Net}
 use Rattle.net.specs.declared.Refusal.{Refusal}
 use Rattle.net.specs.declared.Refusal.the-variants.{Places, Size, Record, Marking, Absent, Disabled}
 use Rattle.net.specs.declared.Checked.the-variants.{Good, Refused as Bad}
@@ -86,6 +88,11 @@ module _ (places m : ℕ) (bytes : List ℕ) where
       (r .0, s .0, s .1, r .1)
 
 -- ---- the decoded net
+
+-- it has at most 64 transitions
+pub decoded-few : (places : ℕ) (bytes : List ℕ) (d : Net) → d ≡ netOf places bytes → tableSized bytes ≡ true → d .transitions ≤ 64
+unfolding netOf tableSized transitions
+decoded-few places bytes d e h = le-trans (le-of-eq (ap (λ x. x .transitions) e)) (sized-most 24 1 64 (length bytes) h)
 
 module _ (places : ℕ) (bytes : List ℕ) (sized : tableSized bytes ≡ true) (t : ℕ) (h : t < transitions bytes) where
   count-most : transitions bytes ≤ 64

@@ -9,11 +9,11 @@ use borrow.Author.Tests.{ne-eqb}
 use Rattle.net.specs.declared.Numbers.{Numbers}
 use Rattle.net.specs.Answer.{Fault}
 use Rattle.walk.specs.declared.Walk.{Walk}
-use Rattle.walk.specs.Calls.{loadedAnswer, readMarking, readCount}
-use Rattle.walk.specs.History.{Call, load, fire, reset, called}
+use Rattle.walk.specs.Calls.{loadedAnswer, readMarking, readCount, readNext}
+use Rattle.walk.specs.History.{Call, load, fire, reset, answered, called}
 use Rattle.sample_nets.specs.Tables.{transition, netR}
 use Rattle.sample_walks.specs.declared.Start.{Start}
-use Rattle.sample_walks.specs.Samples.{started, callOf, callAt, calledTo, after, answered, told, seen}
+use Rattle.sample_walks.specs.Samples.{started, callOf, callAt, calledTo, after, told, seen}
 
 -- what is answered and left by the call k is so by its number
 pub by-number : (w v : Walk) (n : ℕ) (k : Call) (f : Fault) → callOf n ≡ k → f ≡ answered w k → v ≡ called w k
@@ -63,9 +63,16 @@ in-numbers r g f n e = same ∙ ap told e
     same = λ i. record { number = n .0 i; place = n .1 i; marking = n .2 i }
 
 -- and of what is read
-pub in-seen : (w : Walk) (r : Numbers) (g : Fault) (m k : ℕ) → (r .number ≡ g .number) × (r .place ≡ g .place) × (r .marking ≡ 0)
-    → (g ≡ loadedAnswer w) × (m ≡ readMarking w) × (k ≡ readCount w)
-    → record { number = r .number; place = r .place; marking = m; count = k } ≡ seen w
+pub in-seen : (w : Walk) (r : Numbers) (g : Fault) (m k s : ℕ) → (r .number ≡ g .number) × (r .place ≡ g .place) × (r .marking ≡ 0)
+    → (g ≡ loadedAnswer w) × (m ≡ readMarking w) × (k ≡ readCount w) × (s ≡ readNext w)
+    → record { number = r .number; place = r .place; marking = m; count = k; next = s } ≡ seen w
 unfolding seen
-in-seen w r g m k n e =
-    λ i. record { number = (n .0 ∙ ap (λ f. f .number) (e .0)) i; place = (n .1 ∙ ap (λ f. f .place) (e .0)) i; marking = e .1 i; count = e .2 i }
+in-seen w r g m k s n e =
+    λ i.
+    record {
+      number = (n .0 ∙ ap (λ f. f .number) (e .0)) i;
+      place = (n .1 ∙ ap (λ f. f .place) (e .0)) i;
+      marking = e .1 i;
+      count = e .2 i;
+      next = e .3 i;
+    }

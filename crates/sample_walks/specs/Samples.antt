@@ -8,7 +8,7 @@ use Rattle.net.specs.declared.Numbers.{Numbers}
 use Rattle.net.specs.Answer.{Fault}
 use Rattle.walk.specs.declared.Walk.{Walk}
 use Rattle.walk.specs.State.{empty}
-use Rattle.walk.specs.Calls.{loadAnswer, loadWalk, fireAnswer, loadedAnswer, readMarking, readCount}
+use Rattle.walk.specs.Calls.{loadWalk, loadedAnswer, readMarking, readCount, readNext}
 use Rattle.walk.specs.History.{Call, load, fire, reset, called, fireAll}
 use Rattle.sample_nets.specs.Tables.{transition, netR}
 use Rattle.sample_walks.specs.declared.Hand.{Hand}
@@ -35,6 +35,7 @@ byHand h =
       start = h .start;
       present = h .present;
       count = h .count;
+      next = h .next;
     }
 
 unfoldable pub started : Start → Walk
@@ -62,19 +63,13 @@ calledTo w list (suc n) = called (calledTo w list n) (callAt list n)
 unfoldable pub after : Start → List ℕ → ℕ → Walk
 after s list n = calledTo (started s) list n
 
--- what a call answers
-unfoldable pub answered : Walk → Call → Fault
-answered w (load places m bytes) = loadAnswer places m bytes
-answered w (fire t) = fireAnswer w t
-answered w reset = loadedAnswer w
-
 -- ---- in numbers
 
 unfoldable pub told : Fault → Numbers
 told f = record { number = f .number; place = f .place; marking = 0 }
 
 unfoldable pub seen : Walk → Seen
-seen w = record { number = loadedAnswer w .number; place = loadedAnswer w .place; marking = readMarking w; count = readCount w }
+seen w = record { number = loadedAnswer w .number; place = loadedAnswer w .place; marking = readMarking w; count = readCount w; next = readNext w }
 
 -- what a walk carries of the transition t
 unfoldable pub fieldsOf : Walk → ℕ → Fields

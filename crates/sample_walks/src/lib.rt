@@ -27,6 +27,7 @@ pub struct Hand {
     pub start: u64,
     pub present: u64,
     pub count: u32,
+    pub next: u64,
 }
 
 // The walks to start with: a new one, R after 65,535 firings of t0, and one filled in by hand.
@@ -36,12 +37,13 @@ pub enum Start {
     ByHand(Hand),
 }
 
-// What is read: document 01's number and record, marking and count.
+// What is read: document 01's number and record, marking, count and stored set.
 pub struct Seen {
     pub number: u32,
     pub place: u64,
     pub marking: u64,
     pub count: u32,
+    pub next: u64,
 }
 
 // What a walk carries of a transition.
@@ -55,7 +57,7 @@ pub struct Fields {
 
 // Makes one call.
 fn call(walk: Walk, number: u32) -> Outcome
-    ensures { λ r. ⌜ (calls.answerOf (r .answer) ≡ samples.answered walk (samples.callOf number)) × (r .walk ≡ history.called walk (samples.callOf number)) ⌝ }
+    ensures { λ r. ⌜ (calls.answerOf (r .answer) ≡ history.answered walk (samples.callOf number)) × (r .walk ≡ history.called walk (samples.callOf number)) ⌝ }
 {
     let net = sample_nets::net_r();
     match number {
@@ -108,6 +110,7 @@ fn by_hand(hand: Hand) -> Walk
     walk.start = hand.start;
     walk.present = hand.present;
     walk.count = hand.count;
+    walk.next = hand.next;
     walk
 }
 
@@ -151,7 +154,7 @@ fn after(start: Start, list: &[u32], n: usize) -> Walk
 
 // What call n of a list answers after the calls before it.
 pub fn answer(start: Start, list: &[u32], n: usize) -> Numbers
-    ensures { λ r. ⌜ r ≡ samples.told (samples.answered (samples.after start (now (list .entry)) n) (samples.callAt (now (list .entry)) n)) ⌝ }
+    ensures { λ r. ⌜ r ≡ samples.told (history.answered (samples.after start (now (list .entry)) n) (samples.callAt (now (list .entry)) n)) ⌝ }
 {
     let outcome = call(after(start, list, n), call_at(list, n));
     let answer = outcome.answer;
@@ -179,6 +182,7 @@ pub fn reading(start: Start, list: &[u32], n: usize) -> Seen
         place: said.place,
         marking: read.marking,
         count: read.count,
+        next: read.next,
     }
 }
 

@@ -1,5 +1,5 @@
 -- The starred samples ("Sample nets") as rows of one list: what the definitions give, and what document 01 says, by its
--- numbers, or as the bytes of the line that it shows.
+-- numbers, or as the bytes of the line that it shows; with the stored set of a walk, as document 02 (F-2) says it.
 -- Assumes nothing.
 use Prim.Native.Nat.{ℕ}
 use mathlib.Core.Path.{_≡_}
@@ -10,7 +10,7 @@ use Rattle.net.specs.Table.{netOf}
 use Rattle.net.specs.Answer.{Answer, Fault, firing}
 use Rattle.walk.specs.declared.Walk.{Walk}
 use Rattle.walk.specs.State.{empty}
-use Rattle.walk.specs.Calls.{loadWalk, fireAnswer, fireWalk, readMarking, readCount}
+use Rattle.walk.specs.Calls.{loadAnswer, loadWalk, fireAnswer, fireWalk, readMarking, readCount, readNext}
 use Rattle.checker.specs.Outcomes.{checkOutcome}
 use Rattle.texts.specs.Text.{bytes}
 use Rattle.line.specs.Line.{lineOf}
@@ -29,9 +29,9 @@ fired a = a .found .number ∷ a .found .place ∷ a .marking ∷ []
 unfoldable pub told : Fault → List ℕ
 told f = f .number ∷ f .place ∷ []
 
--- what reading a walk gives: the present marking and the count
+-- what reading a walk gives: the present marking, the count and the stored set
 unfoldable pub readFrom : Walk → List ℕ
-readFrom w = readMarking w ∷ readCount w ∷ []
+readFrom w = readMarking w ∷ readCount w ∷ readNext w ∷ []
 
 -- a walk that has R loaded, with 3 places at marking 3
 unfoldable pub walkR : Walk
@@ -58,14 +58,16 @@ starred =
     ∷ record { gives = map (conflicts (netOf 1 (transition 0 0 0 ++ transition 1 1 0 ++ transition 0 0 0))) (0 ∷ 2 ∷ []); says = 1 ∷ 4 ∷ [] }
     -- R: t0 and t1 are independent; t1 and t2 conflict
     ∷ record { gives = yes-or-no (conflict (netOf 3 netR) 0 1) ∷ yes-or-no (conflict (netOf 3 netR) 1 2) ∷ []; says = 0 ∷ 1 ∷ [] }
-    -- fire 0 unloaded: 40
-    ∷ record { gives = told (fireAnswer empty 0); says = 40 ∷ 0 ∷ [] }
-    -- R: fire 3: 8
-    ∷ record { gives = told (fireAnswer walkR 3); says = 8 ∷ 0 ∷ [] }
-    -- R: fire 2: 41
-    ∷ record { gives = told (fireAnswer walkR 2); says = 41 ∷ 0 ∷ [] }
-    -- R: fire 1: marking 5, count 1
-    ∷ record { gives = told (fireAnswer walkR 1) ++ readFrom (fireWalk walkR 1); says = 0 ∷ 0 ∷ 5 ∷ 1 ∷ [] }
+    -- fire 0 unloaded: 40; nothing is read after it
+    ∷ record { gives = told (fireAnswer empty 0) ++ readFrom (fireWalk empty 0); says = 40 ∷ 0 ∷ 0 ∷ 0 ∷ 0 ∷ [] }
+    -- R loaded: marking 3, count 0, set 3
+    ∷ record { gives = told (loadAnswer 3 3 netR) ++ readFrom walkR; says = 0 ∷ 0 ∷ 3 ∷ 0 ∷ 3 ∷ [] }
+    -- R: fire 3: 8; the walk as it was
+    ∷ record { gives = told (fireAnswer walkR 3) ++ readFrom (fireWalk walkR 3); says = 8 ∷ 0 ∷ 3 ∷ 0 ∷ 3 ∷ [] }
+    -- R: fire 2: 41; the walk as it was
+    ∷ record { gives = told (fireAnswer walkR 2) ++ readFrom (fireWalk walkR 2); says = 41 ∷ 0 ∷ 3 ∷ 0 ∷ 3 ∷ [] }
+    -- R: fire 1: marking 5, count 1, set 5
+    ∷ record { gives = told (fireAnswer walkR 1) ++ readFrom (fireWalk walkR 1); says = 0 ∷ 0 ∷ 5 ∷ 1 ∷ 5 ∷ [] }
     -- R holds 2: accepted nodes 23
     ∷ record { gives = written (ask 3 2 3 0) netR formulasR treeR; says = bytes "accepted nodes 23\n" }
     -- R fails 2, node 3 keeping 2: broken 24 at 3

@@ -1,5 +1,5 @@
 // The samples of a walk: its calls, walks filled in by hand, which are loaded or not by their fields, and the full count. A line has a name
-// and the answer's number and record; where the walk is read, marking and count follow.
+// and the answer's number and record; where the walk is read, marking, count and stored set follow.
 use crate::lines::end;
 use crate::lines::number;
 use crate::lines::print;
@@ -34,6 +34,7 @@ fn tell_seen(seen: Seen) {
     number(seen.place);
     number(seen.marking);
     number(seen.count as u64);
+    number(seen.next);
 }
 
 // Prints what call n of a list answers after the calls before it.
@@ -190,7 +191,7 @@ fn each_call(names: &[u8], i: u32, hand: Hand) {
     end();
 }
 
-// Net R with 3 places, started at 3, after one firing of t1.
+// Net R with 3 places, started at 3, after one firing of t1; t0 and t2 are enabled.
 fn good() -> Hand {
     Hand {
         places: 3,
@@ -200,6 +201,7 @@ fn good() -> Hand {
         start: 3,
         present: 5,
         count: 1,
+        next: 5,
     }
 }
 
@@ -261,6 +263,71 @@ fn beyond() {
     reading(names, 7, Start::ByHand(good()), calls, 1);
 }
 
+// ---- the stored set
+
+// A walk that stores t1 alone, which is not enabled, in place of t0 and t2: told as it stands and kept by a refused call, and set right by a granted
+// one, which goes by the net.
+fn wrong_set() {
+    let names: &[u8] = b"by hand, stored 2, read:\n\
+        by hand, stored 2, fire 1:\n\
+        by hand, stored 2, fire 1, read:\n\
+        by hand, stored 2, refused load, read:\n\
+        by hand, stored 2, fire 2:\n\
+        by hand, stored 2, fire 2, read:\n\
+        by hand, stored 2, reset:\n\
+        by hand, stored 2, reset, read:\n\
+        by hand, stored 2, load 1->2:\n\
+        by hand, stored 2, load 1->2, read:\n";
+    let mut hand = good();
+    hand.next = 2;
+    let start = Start::ByHand(hand);
+    let calls: &[u32] = &[1, LOAD_BEYOND, 2];
+    reading(names, 0, start, calls, 0);
+    answer(names, 1, start, calls, 0);
+    reading(names, 2, start, calls, 1);
+    reading(names, 3, start, calls, 2);
+    answer(names, 4, start, calls, 2);
+    reading(names, 5, start, calls, 3);
+    answer(names, 6, start, &[RESET], 0);
+    reading(names, 7, start, &[RESET], 1);
+    answer(names, 8, start, &[LOAD_FORWARD], 0);
+    reading(names, 9, start, &[LOAD_FORWARD], 1);
+}
+
+// The set goes by the number of transitions: those after R's three touch no place and so are enabled, and t2 is not looked at where there are two.
+fn set_by_number() {
+    let names: &[u8] = b"by hand, 64 transitions, fire 0, read:\n\
+        by hand, 64 transitions, fire 0, reset, read:\n\
+        by hand, 2 transitions, fire 0, read:\n";
+    let calls: &[u32] = &[0, RESET];
+    let mut hand = good();
+    hand.transitions = 64;
+    reading(names, 0, Start::ByHand(hand), calls, 1);
+    reading(names, 1, Start::ByHand(hand), calls, 2);
+    hand.transitions = 2;
+    reading(names, 2, Start::ByHand(hand), calls, 1);
+}
+
+// No stored number makes a walk loaded or unloaded, and one of bits beyond the transitions is told as it stands.
+fn any_set() {
+    let names: &[u8] = b"by hand, stored 0:\n\
+        by hand, stored 2^64 - 1:\n\
+        by hand, no places, stored 5:\n\
+        by hand, count 65535, stored 2:\n";
+    let mut hand = good();
+    hand.next = 0;
+    each_call(names, 0, hand);
+    hand.next = 18446744073709551615;
+    each_call(names, 1, hand);
+    hand.next = 5;
+    hand.places = 0;
+    each_call(names, 2, hand);
+    let mut full = good();
+    full.next = 2;
+    full.count = 65535;
+    each_call(names, 3, full);
+}
+
 // ---- the full count
 
 // 65,535 firings of t0 of R: then 42, but 8 and 41 come before it.
@@ -311,5 +378,8 @@ pub(crate) fn print_all() {
     again(calls);
     wrong_sizes();
     beyond();
+    wrong_set();
+    set_by_number();
+    any_set();
     full();
 }

@@ -12,7 +12,7 @@ use Rattle.bitset.specs.Sets.{member, within}
 use Rattle.tables.proofs.Tests.{and-left, and-right, and-intro, either, if-true}
 use Rattle.bitset.proofs.Relations.{within-member, member-within}
 use Rattle.tables.specs.Sizes.{sized}
-use Rattle.net.specs.Step.{preOf, postOf, enabledBy, firedBy, enabled, fired}
+use Rattle.net.specs.Step.{preOf, postOf, firedBy, enabled, fired}
 use Rattle.net.specs.Table.{preAt, postAt, spareAt, transitions, netOf, placesGood, tableSized, recordBad}
 use Rattle.tables.specs.Lists.{first}
 use Rattle.tables.specs.Faults.{scanFault}
@@ -20,15 +20,15 @@ use Rattle.net.specs.Answer.{noFault, fault, orElse, tableFault, loadFault}
 use Rattle.net.proofs.Answers.{load-passed, decoded-pre, decoded-post}
 use Rattle.net.proofs.Independence.{member-firedBy}
 use Rattle.walk.specs.declared.Walk.{Walk}
-use Rattle.walk.specs.State.{netIn, startedAt, movedTo, empty, setsWithin, transitionsGood, loaded}
+use Rattle.walk.specs.State.{netIn, startedAt, movedTo, empty, setsWithin, transitionsGood, netGood, loaded}
 use Rattle.walk.specs.Calls.{granted, loadAnswer, loadWalk, fireAnswer, fireWalk, loadedAnswer, resetWalk}
 use Rattle.walk.specs.History.{Call, called, run}
 use Rattle.walk.specs.History.Call.{load, fire, reset}
 use Rattle.tables.proofs.Below.{every-at, every-is}
-use Rattle.walk.proofs.Walks.{Sound, loaded-sound, sound-loaded, answers}
+use Rattle.walk.proofs.Walks.{Sound, loaded-sound, sound-loaded}
 
 pub new-unloaded : loaded empty ≡ false
-unfolding loaded empty placesGood
+unfolding loaded netGood empty placesGood
 new-unloaded = refl
 
 -- ---- what a granted call has passed
@@ -48,28 +48,37 @@ load-none places m bytes =
     by true false f w k e = absurd (false≢true e)
     by false s f w k e = absurd (false≢true e)
 
--- a firing is granted where the walk is loaded and the transition is one of the net's, enabled, and the count is below 65,535
+-- a firing is granted where the walk is loaded, the transition is one of the net's and enabled, and the count is below 65,535
+pub grants-where : (w : Walk) (t : ℕ) → granted (fireAnswer w t) ≡ (loaded w && (enabled (netIn w) (w .present) t && ltb (w .count) 65535))
+unfolding fireAnswer granted enabled netIn
+grants-where w t = by (loaded w) (ltb t (w .transitions)) _ (ltb (w .count) 65535)
+  where
+    by : (l n e f : Bool) → granted (cond l (cond n (cond (n && e) (cond f noFault (fault 42 0)) (fault 41 0)) (fault 8 0)) (fault 40 0)) ≡ (l && ((n && e) && f))
+    by true true true true = refl
+    by true true true false = refl
+    by true true false f = refl
+    by true false e f = refl
+    by false n e f = refl
+
 pub fire-needs : (w : Walk) (t : ℕ) → granted (fireAnswer w t) ≡ true
     → (loaded w ≡ true) × (t < w .transitions) × (enabled (netIn w) (w .present) t ≡ true) × (w .count < 65535)
-unfolding fireAnswer granted
-fire-needs w t e =
-    let r = by (loaded w) (ltb t (w .transitions)) (enabled (netIn w) (w .present) t) (ltb (w .count) 65535) e in
-    (r .0, ltb-true t (w .transitions) (r .1), r .2, ltb-true (w .count) 65535 (r .3))
-  where
-    by : (l n e f : Bool) → granted (cond l (cond n (cond e (cond f noFault (fault 42 0)) (fault 41 0)) (fault 8 0)) (fault 40 0)) ≡ true
-        → (l ≡ true) × (n ≡ true) × (e ≡ true) × (f ≡ true)
-    by true true true true e = (refl, refl, refl, refl)
-    by true true true false e = absurd (false≢true e)
-    by true true false f e = absurd (false≢true e)
-    by true false e f q = absurd (false≢true q)
-    by false n e f q = absurd (false≢true q)
+unfolding enabled netIn
+fire-needs w t h =
+    let can = enabled (netIn w) (w .present) t in
+    let room = ltb (w .count) 65535 in
+    let all = sym (grants-where w t) ∙ h in
+    let p = and-left can room (and-right (loaded w) (can && room) all) in (
+      and-left (loaded w) (can && room) all,
+      ltb-true t (w .transitions) (and-left (ltb t (w .transitions)) _ p),
+      p,
+      ltb-true (w .count) 65535 (and-right can room (and-right (loaded w) (can && room) all)),
+    )
 
 pub fire-grants : (w : Walk) (t : ℕ) → loaded w ≡ true → enabled (netIn w) (w .present) t ≡ true → w .count < 65535 → granted (fireAnswer w t) ≡ true
-unfolding granted
-fire-grants w t h p l = ap granted (answers w t true true true true h (named p) p (lt-ltb (w .count) 65535 l))
-  where
-    named : enabled (netIn w) (w .present) t ≡ true → ltb t (w .transitions) ≡ true
-    named q = unfold enabled netIn in and-left (ltb t (w .transitions)) (enabledBy (getD (w .pre) t 0) (getD (w .post) t 0) (w .present)) q
+fire-grants w t h p l =
+    let can = enabled (netIn w) (w .present) t in
+    let room = ltb (w .count) 65535 in
+    grants-where w t ∙ and-intro (loaded w) (can && room) h (and-intro can room p (lt-ltb (w .count) 65535 l))
 
 -- ---- load
 

@@ -1,24 +1,32 @@
--- After any sequence of calls, the count of a walk is the number of firings granted since the last granted load or reset, and its present
--- marking is where these lead from the start, in the net of the last granted load. Assumes nothing.
-use mathlib.Core.Path.{_≡_, refl, sym, ap, _∙_}
+-- After any sequence of calls, the count of a walk is the number of firings granted since the last granted load or reset, its present marking is
+-- where these lead from the start, in the net of the last granted load, and its stored set is that of the transitions enabled there, so that firing
+-- is granted for its members, while the count has room. Of a walk in any condition: a granted call leaves that set, and nothing else depends on the
+-- stored number. Assumes nothing.
+use mathlib.Core.Path.{_≡_, refl, sym, ap, subst, _∙_}
 use mathlib.Core.Bool.{Bool, true, false, cond, _&&_}
+use mathlib.Core.Logic.{_⊎_, inl, inr}
 use mathlib.Core.List.{List, [], _∷_, _++_}
 use mathlib.Core.Option.{none, some}
-use Prim.Native.Nat.{ℕ, suc, _+_, _≤_, _<_}
+use Prim.Native.Nat.{ℕ, suc, _+_, _≤_, _<_, zero-le}
 use native.Mathlib.Nat.{add-zero, zero-add}
 use native.Mathlib.Omega.{arith}
 use lib.ListN.{length, length-append}
-use Rattle.tables.proofs.Tests.{and-left, and-right, and-intro, if-true}
+use Rattle.tables.proofs.Tests.{and-left, and-right, and-intro, if-true, if-false}
 use Rattle.net.specs.declared.Net.{Net}
-use Rattle.net.specs.Step.{enabled, fired}
+use lib.Dec.{ltb}
+use borrow.Author.Tests.{le-ltb}
+use Rattle.bitset.specs.Sets.{member, collect}
+use Rattle.bitset.proofs.Relations.{member-collect}
+use Rattle.net.specs.Step.{enabled, fired, next}
 use Rattle.net.specs.Table.{netOf}
 use Rattle.net.specs.Sequence.{after}
 use Rattle.walk.specs.declared.Walk.{Walk}
-use Rattle.walk.specs.State.{netIn, startedAt, movedTo, empty, loaded}
-use Rattle.walk.specs.Calls.{granted, loadAnswer, loadWalk, fireAnswer, fireWalk, loadedAnswer, resetWalk}
-use Rattle.walk.specs.History.{Call, called, run, Log, noCalls, logged, since, Follows, fireAll, allGranted}
+use Rattle.walk.specs.State.{netIn, startedAt, movedTo, empty, storing, StoresNext, loaded}
+use Rattle.walk.specs.Calls.{granted, loadAnswer, loadWalk, fireAnswer, fireWalk, loadedAnswer, resetWalk, readMarking, readCount}
+use Rattle.walk.specs.History.{Call, answered, called, run, Log, noCalls, logged, since, Follows, OffersSteps, LeavesNext, AnyStored, fireAll, allGranted}
 use Rattle.walk.specs.History.Call.{load, fire, reset}
-use Rattle.walk.proofs.Conditions.{fire-needs, fire-grants, fire-loaded}
+use Rattle.walk.proofs.Walks.{read-granted}
+use Rattle.walk.proofs.Conditions.{new-unloaded, grants-where, fire-needs, fire-grants, load-loaded, fire-loaded, run-loaded}
 
 -- one firing more at the end of a firing sequence
 after-more : (N : Net) (m e t : ℕ) (ts : List ℕ) → after N m ts ≡ some e → enabled N e t ≡ true → after N m (ts ++ (t ∷ [])) ≡ some (fired N e t)
@@ -41,7 +49,7 @@ module _ (w : Walk) (p : Log) (f : Follows w p) where
   follows-load places m bytes = by (granted (loadAnswer places m bytes))
     where
       by : (b : Bool) → Follows (cond b (startedAt (netOf places bytes) m) w) (cond b (record { net = netOf places bytes; start = m; firings = [] }) p)
-      by true = record { net = refl; start = refl; count = refl; present = refl }
+      by true = record { net = refl; start = refl; count = refl; present = refl; next = refl }
       by false = f
 
   follows-reset : Follows (resetWalk w) (logged w p reset)
@@ -49,7 +57,7 @@ module _ (w : Walk) (p : Log) (f : Follows w p) where
   follows-reset = by (granted (loadedAnswer w))
     where
       by : (b : Bool) → Follows (cond b (movedTo w (w .start) 0) w) (cond b (record { net = p .net; start = p .start; firings = [] }) p)
-      by true = record { net = f .net; start = f .start; count = refl; present = ap some (sym (f .start)) }
+      by true = record { net = f .net; start = f .start; count = refl; present = ap some (sym (f .start)); next = refl }
       by false = f
 
   follows-fire : (t : ℕ) → Follows (fireWalk w t) (logged w p (fire t))
@@ -69,7 +77,7 @@ module _ (w : Walk) (p : Log) (f : Follows w p) where
       by : (b : Bool) → granted (fireAnswer w t) ≡ b
           → Follows (cond b (movedTo w (fired (netIn w) (w .present) t) (w .count + 1)) w)
           (cond b (record { net = p .net; start = p .start; firings = p .firings ++ (t ∷ []) }) p)
-      by true h = record { net = f .net; start = f .start; count = counts; present = moves h }
+      by true h = record { net = f .net; start = f .start; count = counts; present = moves h; next = refl }
       by false h = f
 
   follows-called : (c : Call) → Follows (called w c) (logged w p c)
@@ -90,7 +98,103 @@ pub follows-new : (cs : List Call) → Follows (run empty cs) (since empty noCal
 follows-new = follows empty noCalls start
   where
     start : Follows empty noCalls
-    start = unfold empty noCalls netIn after in record { net = refl; start = refl; count = refl; present = refl }
+    start = unfold empty noCalls netIn after next collect in record { net = refl; start = refl; count = refl; present = refl; next = refl }
+
+-- ---- the steps to offer
+
+-- it is loaded, or it is new still
+Made : Walk → Type 0
+Made w = (loaded w ≡ true) ⊎ (w ≡ empty)
+
+-- a new walk refuses all but a load
+new-called : (c : Call) → Made (called empty c)
+unfolding Made called loadWalk fireWalk resetWalk fireAnswer loadedAnswer granted
+new-called (load places m bytes) = by (granted (loadAnswer places m bytes)) refl
+  where
+    by : (b : Bool) → granted (loadAnswer places m bytes) ≡ b → Made (cond b (startedAt (netOf places bytes) m) empty)
+    by true h = inl (ap loaded (sym (if-true _ _ empty h)) ∙ load-loaded empty places m bytes h)
+    by false h = inr refl
+new-called (fire t) = inr (simp new-unloaded refl)
+new-called reset = inr (simp new-unloaded refl)
+
+made : (cs : List Call) → Made (run empty cs)
+unfolding Made run
+made [] = inr refl
+made (c ∷ cs) = by (called empty c) (new-called c) (made cs)
+  where
+    by : (w : Walk) → Made w → Made (run empty cs) → Made (run w cs)
+    by w (inl h) rest = inl (run-loaded w cs h)
+    by w (inr e) rest = subst (λ v. Made (run v cs)) (sym e) rest
+
+-- the members of Next
+in-next : (N : Net) (m t : ℕ) → member (next N m) t ≡ enabled N m t
+unfolding next enabled
+in-next N m t = member-collect (enabled N m) (N .transitions) t ∙ by (ltb t (N .transitions)) _
+  where
+    by : (a e : Bool) → (a && (a && e)) ≡ (a && e)
+    by true e = refl
+    by false e = refl
+
+-- of a new walk nothing is granted, and its set is empty
+new-offers : (t : ℕ) → granted (fireAnswer empty t) ≡ (member (empty .next) t && ltb (empty .count) 65535)
+unfolding empty collect
+new-offers t =
+    grants-where empty t
+    ∙ ap (λ b. b && (enabled (netIn empty) 0 t && true)) new-unloaded
+    ∙ sym (ap (λ b. b && true) (member-collect (λ k. true) 0 t ∙ ap (λ b. b && true) (le-ltb t 0 zero-le)))
+
+offers : (w : Walk) (t : ℕ) → StoresNext w → Made w → granted (fireAnswer w t) ≡ (member (w .next) t && ltb (w .count) 65535)
+unfolding Made
+offers w t q (inl h) =
+    let room = ltb (w .count) 65535 in
+    grants-where w t
+    ∙ ap (λ b. b && (enabled (netIn w) (w .present) t && room)) h
+    ∙ sym (ap (λ b. b && room) (ap (λ (s : ℕ). member s t) q ∙ in-next (netIn w) (w .present) t))
+offers w t q (inr e) = subst (λ v. granted (fireAnswer v t) ≡ (member (v .next) t && ltb (v .count) 65535)) (sym e) (new-offers t)
+
+pub offers-steps : OffersSteps
+unfolding OffersSteps
+offers-steps cs t = offers (run empty cs) t (follows-new cs .next) (made cs)
+
+-- ---- the stored set
+
+pub leaves-next : LeavesNext
+unfolding LeavesNext answered called loadWalk fireWalk resetWalk startedAt movedTo netIn
+leaves-next w (load places m bytes) h = subst StoresNext (sym (if-true _ _ w h)) refl
+leaves-next w (fire t) h = subst StoresNext (sym (if-true _ _ w h)) refl
+leaves-next w reset h = subst StoresNext (sym (if-true _ _ w h)) refl
+
+module _ (w : Walk) (n : ℕ) where
+  same-answer : (c : Call) → answered (storing w n) c ≡ answered w c
+  unfolding answered fireAnswer loadedAnswer loaded netIn storing
+  same-answer (load places m bytes) = refl
+  same-answer (fire t) = refl
+  same-answer reset = refl
+
+  same-after : (c : Call) → granted (answered w c) ≡ true → called (storing w n) c ≡ called w c
+  unfolding answered called loadWalk fireWalk resetWalk fireAnswer loadedAnswer loaded netIn movedTo storing
+  same-after (load places m bytes) h = if-true _ _ (storing w n) h ∙ sym (if-true _ _ w h)
+  same-after (fire t) h = if-true _ _ (storing w n) h ∙ sym (if-true _ _ w h)
+  same-after reset h = if-true _ _ (storing w n) h ∙ sym (if-true _ _ w h)
+
+  as-it-came : (c : Call) → granted (answered w c) ≡ false → called (storing w n) c ≡ storing w n
+  unfolding answered called loadWalk fireWalk resetWalk fireAnswer loadedAnswer loaded netIn storing
+  as-it-came (load places m bytes) h = if-false _ _ (storing w n) h
+  as-it-came (fire t) h = if-false _ _ (storing w n) h
+  as-it-came reset h = if-false _ _ (storing w n) h
+
+  pub any-stored : AnyStored w n
+  unfolding readMarking readCount loadedAnswer loaded storing
+  any-stored =
+      record {
+        condition = refl;
+        answer = same-answer;
+        after-granted = same-after;
+        after-refused = as-it-came;
+        marking = refl;
+        count = refl;
+        told = λ h. sym (read-granted (storing w n) h .3);
+      }
 
 -- ---- firings one after the other
 

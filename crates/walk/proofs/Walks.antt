@@ -12,15 +12,15 @@ use Rattle.net.specs.declared.Net.{Net}
 use Rattle.net.specs.declared.Refusal.{Refusal}
 use Rattle.net.specs.declared.Refusal.the-variants.{Places, Size, Record, Marking, Absent, Disabled}
 use Rattle.net.specs.declared.Checked.the-variants.{Good, Refused as Bad}
-use Rattle.net.specs.Step.{enabledBy, firedBy, enabled, fired}
+use Rattle.net.specs.Step.{enabledBy, firedBy, enabled, fired, next, arcs}
 use Rattle.net.specs.Table.{placesGood, netOf}
 use Rattle.net.specs.Answer.{Fault, noFault, fault, refusal, checked, loadFault}
-use Rattle.net.proofs.Loops.{enabled-in}
+use Rattle.net.proofs.Loops.{enabled-in, arcs-next}
 use Rattle.walk.specs.declared.Walk.{Walk}
 use Rattle.walk.specs.declared.Answer.the-variants.{Granted, Unloaded, Refused, Full}
 use Rattle.tables.specs.Below.{everyBelow}
-use Rattle.walk.specs.State.{netIn, startedAt, movedTo, setsWithin, transitionsGood, loaded}
-use Rattle.walk.specs.Calls.{answerOf, granted, loadAnswer, loadWalk, fireAnswer, fireWalk, loadedAnswer, resetWalk, readMarking, readCount}
+use Rattle.walk.specs.State.{netIn, startedAt, movedTo, storing, setsWithin, transitionsGood, netGood, stateGood, loaded}
+use Rattle.walk.specs.Calls.{answerOf, granted, loadAnswer, loadWalk, fireAnswer, fireWalk, loadedAnswer, resetWalk, readMarking, readCount, readNext}
 
 -- ---- tests: what a negated test in the code says of the definition that it computes
 
@@ -29,6 +29,16 @@ denied {r} e h = sym e ∙ not-true r h
 
 pub shown : {r b : Bool} → r ≡ b → not r ≡ false → b ≡ true
 shown {r} e h = sym e ∙ not-false r h
+
+-- ---- the stored set: what the code finds for the arcs is the net's
+
+started-with : (N : Net) (m s : ℕ) → s ≡ next (arcs (N .transitions) (N .pre) (N .post)) m → storing (startedAt N m) s ≡ startedAt N m
+unfolding storing startedAt
+started-with N m s q = ap (storing (startedAt N m)) (q ∙ arcs-next N m)
+
+moved-with : (w : Walk) (m n s : ℕ) → s ≡ next (arcs (w .transitions) (w .pre) (w .post)) m → storing (movedTo w m n) s ≡ movedTo w m n
+unfolding storing movedTo netIn
+moved-with w m n s q = ap (storing (movedTo w m n)) (q ∙ arcs-next (netIn w) m)
 
 -- ---- load
 
@@ -52,10 +62,11 @@ module _ (w : Walk) (places m : ℕ) (bytes : List ℕ) where
   unfolding answerOf checked loadAnswer
   load-refused r e = (e, sym (loads (refusal r) e ∙ if-false _ _ w (refusal-not r)))
 
-  pub load-granted : (N : Net) → checked Good ≡ loadFault places m bytes → N ≡ netOf places bytes
-      → (answerOf Granted ≡ loadAnswer places m bytes) × (startedAt N m ≡ loadWalk w places m bytes)
+  pub load-granted : (N : Net) (s : ℕ) → checked Good ≡ loadFault places m bytes → N ≡ netOf places bytes
+      → s ≡ next (arcs (N .transitions) (N .pre) (N .post)) m
+      → (answerOf Granted ≡ loadAnswer places m bytes) × (storing (startedAt N m) s ≡ loadWalk w places m bytes)
   unfolding answerOf checked loadAnswer granted
-  load-granted N e d = (e, ap (λ n. startedAt n m) d ∙ sym (loads noFault e))
+  load-granted N s e d q = (e, started-with N m s q ∙ ap (λ n. startedAt n m) d ∙ sym (loads noFault e))
 
 -- ---- loaded
 
@@ -78,41 +89,47 @@ module _ (w : Walk) where
   sets : Bool
   sets = everyBelow (setsWithin (w .places) (w .pre) (w .post)) (w .transitions)
 
-  rest : Bool
-  rest = sets && within (w .places) (w .start) && within (w .places) (w .present) && leb (w .count) 65535
+  markings : Bool
+  markings = within (w .places) (w .start) && within (w .places) (w .present)
 
   pub loaded-sound : loaded w ≡ true → Sound w
-  unfolding loaded sized sets rest
+  unfolding loaded netGood stateGood sized sets markings
   loaded-sound h =
-      let a = both sized rest h in
-      let b = both (placesGood (w .places)) (transitionsGood (w .transitions)) (a .0) in
-      let c = both (sets && within (w .places) (w .start) && within (w .places) (w .present)) (leb (w .count) 65535) (a .1) in
-      let d = both (sets && within (w .places) (w .start)) (within (w .places) (w .present)) (c .0) in
-      let e = both sets (within (w .places) (w .start)) (d .0) in
-      record { places = b .0; transitions = b .1; sets = e .0; start = e .1; present = d .1; count = c .1 }
+      let a = both (sized && sets) (markings && leb (w .count) 65535) h in
+      let b = both sized sets (a .0) in
+      let c = both (placesGood (w .places)) (transitionsGood (w .transitions)) (b .0) in
+      let d = both markings (leb (w .count) 65535) (a .1) in
+      let e = both (within (w .places) (w .start)) (within (w .places) (w .present)) (d .0) in
+      record { places = c .0; transitions = c .1; sets = b .1; start = e .0; present = e .1; count = d .1 }
 
   pub sound-loaded : Sound w → loaded w ≡ true
-  unfolding loaded sized sets rest
+  unfolding loaded netGood stateGood sized sets markings
   sound-loaded s =
-      and-intro sized rest (and-intro (placesGood (w .places)) (transitionsGood (w .transitions)) (s .places) (s .transitions))
-      (and-intro (sets && within (w .places) (w .start) && within (w .places) (w .present)) (leb (w .count) 65535)
-      (and-intro (sets && within (w .places) (w .start)) (within (w .places) (w .present)) (and-intro sets (within (w .places) (w .start)) (s .sets) (s .start))
-      (s .present))
+      and-intro (sized && sets) (markings && leb (w .count) 65535)
+      (and-intro sized sets (and-intro (placesGood (w .places)) (transitionsGood (w .transitions)) (s .places) (s .transitions)) (s .sets))
+      (and-intro markings (leb (w .count) 65535) (and-intro (within (w .places) (w .start)) (within (w .places) (w .present)) (s .start) (s .present))
       (s .count))
 
-  -- the test of the numbers, and then the others
-  pub loaded-not : not (placesGood (w .places) && transitionsGood (w .transitions)) ≡ true → false ≡ loaded w
-  unfolding loaded sized sets rest
-  loaded-not h = sym (ap (λ b. b && rest) (not-true sized h))
+  -- what the two tests together say
+  module _ {n s : Bool} (p : n ≡ netGood (w .places) (w .transitions) (w .pre) (w .post)) (q : s ≡ stateGood (w .places) (w .start) (w .present) (w .count)) where
+    pub unloaded-by : not (n && s) ≡ true → loaded w ≡ false
+    unfolding loaded
+    unloaded-by h = denied (ap₂ _&&_ p q) h
 
-  pub loaded-by : (s a p : Bool) → not (placesGood (w .places) && transitionsGood (w .transitions)) ≡ false
-      → s ≡ everyBelow (setsWithin (w .places) (w .pre) (w .post)) (w .transitions) → a ≡ within (w .places) (w .start) → p ≡ within (w .places) (w .present)
-      → (s && a && p && leb (w .count) 65535) ≡ loaded w
-  unfolding loaded sized sets rest
-  loaded-by s a p h e f g =
-      ap₂ (λ x y. x && y && p && leb (w .count) 65535) e f
-      ∙ ap (λ x. sets && within (w .places) (w .start) && x && leb (w .count) 65535) g
-      ∙ sym (ap (λ b. b && rest) (not-false sized h))
+    pub loaded-by : not (n && s) ≡ false → loaded w ≡ true
+    unfolding loaded
+    loaded-by h = shown (ap₂ _&&_ p q) h
+
+-- the test of the numbers, and then that of the sets
+module _ (places transitions : ℕ) (pre post : List ℕ) where
+  pub net-not : not (placesGood places && transitionsGood transitions) ≡ true → false ≡ netGood places transitions pre post
+  unfolding netGood
+  net-not h = sym (ap (λ b. b && everyBelow (setsWithin places pre post) transitions) (not-true (placesGood places && transitionsGood transitions) h))
+
+  pub net-by : (s : Bool) → not (placesGood places && transitionsGood transitions) ≡ false → s ≡ everyBelow (setsWithin places pre post) transitions
+      → s ≡ netGood places transitions pre post
+  unfolding netGood
+  net-by s h e = e ∙ sym (ap (λ b. b && everyBelow (setsWithin places pre post) transitions) (not-false (placesGood places && transitionsGood transitions) h))
 
 pub good-most : (n : ℕ) → transitionsGood n ≡ true → n ≤ 64
 unfolding transitionsGood
@@ -122,8 +139,14 @@ pub tested-most : (places n : ℕ) → not (placesGood places && transitionsGood
 tested-most places n h =
     good-most n (and-right (placesGood places) (transitionsGood n) (not-false (placesGood places && transitionsGood n) h))
 
-pub loaded-most : (w : Walk) → loaded w ≡ true → w .transitions ≤ 64
-loaded-most w h = good-most (w .transitions) (loaded-sound w h .transitions)
+-- of a net that has passed the two tests
+pub loaded-most : (n s : Bool) (places transitions : ℕ) (pre post : List ℕ) → n ≡ netGood places transitions pre post → not (n && s) ≡ false → transitions ≤ 64
+unfolding netGood
+loaded-most n s places transitions pre post e h =
+    let sizes = placesGood places && transitionsGood transitions in
+    good-most transitions
+    (and-right (placesGood places) (transitionsGood transitions)
+    (and-left sizes (everyBelow (setsWithin places pre post) transitions) (sym e ∙ and-left n s (not-false (n && s) h))))
 
 -- ---- reset and read
 
@@ -133,10 +156,17 @@ module _ (w : Walk) where
   reset-refused h =
       (sym (ap (λ b. cond b noFault (fault 40 0)) h), sym (ap (λ b. cond (granted (cond b noFault (fault 40 0))) (movedTo w (w .start) 0) w) h))
 
-  pub reset-granted : loaded w ≡ true → (answerOf Granted ≡ loadedAnswer w) × (movedTo w (w .start) 0 ≡ resetWalk w)
-  unfolding answerOf loadedAnswer resetWalk granted
-  reset-granted h =
-      (sym (ap (λ b. cond b noFault (fault 40 0)) h), sym (ap (λ b. cond (granted (cond b noFault (fault 40 0))) (movedTo w (w .start) 0) w) h))
+  granted-if : loaded w ≡ true → answerOf Granted ≡ loadedAnswer w
+  unfolding answerOf loadedAnswer
+  granted-if h = sym (ap (λ b. cond b noFault (fault 40 0)) h)
+
+  pub reset-granted : (s : ℕ) → loaded w ≡ true → s ≡ next (arcs (w .transitions) (w .pre) (w .post)) (w .start)
+      → (answerOf Granted ≡ loadedAnswer w) × (storing (movedTo w (w .start) 0) s ≡ resetWalk w)
+  unfolding loadedAnswer resetWalk granted
+  reset-granted s h q = (
+    granted-if h,
+    moved-with w (w .start) 0 s q ∙ sym (ap (λ b. cond (granted (cond b noFault (fault 40 0))) (movedTo w (w .start) 0) w) h),
+  )
 
   reads : (b : Bool) (n : ℕ) → loaded w ≡ b → cond (granted (loadedAnswer w)) n 0 ≡ cond b n 0
   unfolding loadedAnswer granted
@@ -146,19 +176,21 @@ module _ (w : Walk) where
       same true = refl
       same false = refl
 
-  pub read-refused : loaded w ≡ false → (answerOf Unloaded ≡ loadedAnswer w) × (_≡_ {A = ℕ} 0 (readMarking w)) × (_≡_ {A = ℕ} 0 (readCount w))
-  unfolding readMarking readCount
-  read-refused h = (reset-refused h .0, sym (reads false (w .present) h), sym (reads false (w .count) h))
+  pub read-refused : loaded w ≡ false
+      → (answerOf Unloaded ≡ loadedAnswer w) × (_≡_ {A = ℕ} 0 (readMarking w)) × (_≡_ {A = ℕ} 0 (readCount w)) × (_≡_ {A = ℕ} 0 (readNext w))
+  unfolding readMarking readCount readNext
+  read-refused h = (reset-refused h .0, sym (reads false (w .present) h), sym (reads false (w .count) h), sym (reads false (w .next) h))
 
-  pub read-granted : loaded w ≡ true → (answerOf Granted ≡ loadedAnswer w) × (w .present ≡ readMarking w) × (w .count ≡ readCount w)
-  unfolding readMarking readCount
-  read-granted h = (reset-granted h .0, sym (reads true (w .present) h), sym (reads true (w .count) h))
+  pub read-granted : loaded w ≡ true
+      → (answerOf Granted ≡ loadedAnswer w) × (w .present ≡ readMarking w) × (w .count ≡ readCount w) × (w .next ≡ readNext w)
+  unfolding readMarking readCount readNext
+  read-granted h = (granted-if h, sym (reads true (w .present) h), sym (reads true (w .count) h), sym (reads true (w .next) h))
 
 -- ---- fire
 
 module _ (w : Walk) (t : ℕ) where
   -- the answer by its four tests
-  pub answers : (l n e f : Bool) → loaded w ≡ l → ltb t (w .transitions) ≡ n → enabled (netIn w) (w .present) t ≡ e → ltb (w .count) 65535 ≡ f
+  answers : (l n e f : Bool) → loaded w ≡ l → ltb t (w .transitions) ≡ n → enabled (netIn w) (w .present) t ≡ e → ltb (w .count) 65535 ≡ f
       → fireAnswer w t ≡ cond l (cond n (cond e (cond f noFault (fault 42 0)) (fault 41 0)) (fault 8 0)) (fault 40 0)
   unfolding fireAnswer
   answers l n e f p q r s =
@@ -193,10 +225,11 @@ module _ (w : Walk) (t : ℕ) where
         let e = answers true true true false h (lt-ltb t (w .transitions) l) (enabled-is true p) (le-ltb (w .count) 65535 k) in
         (sym e, sym (fires (fault 42 0) e))
 
-    pub fire-granted : (m : ℕ) → enabledBy (getD (w .pre) t 0) (getD (w .post) t 0) (w .present) ≡ true → w .count < 65535
+    pub fire-granted : (m s : ℕ) → enabledBy (getD (w .pre) t 0) (getD (w .post) t 0) (w .present) ≡ true → w .count < 65535
         → m ≡ firedBy (getD (w .pre) t 0) (getD (w .post) t 0) (w .present)
-        → (answerOf Granted ≡ fireAnswer w t) × (movedTo w m (w .count + 1) ≡ fireWalk w t)
+        → s ≡ next (arcs (w .transitions) (w .pre) (w .post)) m
+        → (answerOf Granted ≡ fireAnswer w t) × (storing (movedTo w m (w .count + 1)) s ≡ fireWalk w t)
     unfolding answerOf granted fired netIn
-    fire-granted m p k q =
+    fire-granted m s p k q r =
         let e = answers true true true true h (lt-ltb t (w .transitions) l) (enabled-is true p) (lt-ltb (w .count) 65535 k) in
-        (sym e, ap (λ (x : ℕ). movedTo w x (w .count + 1)) q ∙ sym (fires noFault e))
+        (sym e, moved-with w m (w .count + 1) s r ∙ ap (λ (x : ℕ). movedTo w x (w .count + 1)) q ∙ sym (fires noFault e))

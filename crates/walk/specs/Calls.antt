@@ -30,7 +30,7 @@ granted f = eqb (f .number) 0
 unfoldable pub loadAnswer : ℕ → ℕ → List ℕ → Fault
 loadAnswer places m bytes = loadFault places m bytes
 
--- the walk with its own copy of the net, whatever was loaded before
+-- the walk with its own copy of the net and the set for the marking, whatever was loaded before
 unfoldable pub loadWalk : Walk → ℕ → ℕ → List ℕ → Walk
 loadWalk w places m bytes = cond (granted (loadAnswer places m bytes)) (startedAt (netOf places bytes) m) w
 
@@ -43,7 +43,7 @@ fireAnswer w t =
     (cond (ltb t (w .transitions)) (cond (enabled (netIn w) (w .present) t) (cond (ltb (w .count) 65535) noFault (fault 42 0)) (fault 41 0)) (fault 8 0))
     (fault 40 0)
 
--- the marking after t, and one more firing
+-- the marking after t, one more firing, and the set for that marking
 unfoldable pub fireWalk : Walk → ℕ → Walk
 fireWalk w t = cond (granted (fireAnswer w t)) (movedTo w (fired (netIn w) (w .present) t) (w .count + 1)) w
 
@@ -53,7 +53,7 @@ fireWalk w t = cond (granted (fireAnswer w t)) (movedTo w (fired (netIn w) (w .p
 unfoldable pub loadedAnswer : Walk → Fault
 loadedAnswer w = cond (loaded w) noFault (fault 40 0)
 
--- the start marking again, count 0
+-- the start marking again, count 0, and the set for that marking
 unfoldable pub resetWalk : Walk → Walk
 resetWalk w = cond (granted (loadedAnswer w)) (movedTo w (w .start) 0) w
 
@@ -64,3 +64,7 @@ readMarking w = cond (granted (loadedAnswer w)) (w .present) 0
 -- the count; 0 where the call is refused
 unfoldable pub readCount : Walk → ℕ
 readCount w = cond (granted (loadedAnswer w)) (w .count) 0
+
+-- the stored set, as it stands; 0 where the call is refused
+unfoldable pub readNext : Walk → ℕ
+readNext w = cond (granted (loadedAnswer w)) (w .next) 0

@@ -1,22 +1,32 @@
 -- Calls of a walk in sequence, and what they amount to: the net and the marking of the last granted load, and the firings granted since
--- the last granted load or reset. `read` gives back no walk and so is no call here. Assumes nothing.
+-- the last granted load or reset; then the stored set, which offers the steps that are granted. `read` gives back no walk and so is no call here.
+-- Assumes nothing.
 use Prim.Native.Nat.{ℕ}
 use mathlib.Core.Path.{_≡_}
-use mathlib.Core.Bool.{Bool, true, cond, _&&_}
+use mathlib.Core.Bool.{Bool, true, false, cond, _&&_}
 use mathlib.Core.List.{List, [], _∷_, _++_}
 use mathlib.Core.Option.{some}
 use lib.ListN.{length}
+use lib.Dec.{ltb}
+use Rattle.bitset.specs.Sets.{member}
 use Rattle.net.specs.declared.Net.{Net}
 use Rattle.net.specs.Table.{netOf}
+use Rattle.net.specs.Answer.{Fault}
 use Rattle.net.specs.Sequence.{after}
 use Rattle.walk.specs.declared.Walk.{Walk}
-use Rattle.walk.specs.State.{netIn, empty}
-use Rattle.walk.specs.Calls.{granted, loadAnswer, loadWalk, fireAnswer, fireWalk, loadedAnswer, resetWalk}
+use Rattle.walk.specs.State.{netIn, empty, storing, StoresNext, loaded}
+use Rattle.walk.specs.Calls.{granted, loadAnswer, loadWalk, fireAnswer, fireWalk, loadedAnswer, resetWalk, readMarking, readCount, readNext}
 
 pub data Call : Type 0 where
   load : (places m : ℕ) (bytes : List ℕ) → Call
   fire : (t : ℕ) → Call
   reset : Call
+
+-- what a call answers
+unfoldable pub answered : Walk → Call → Fault
+answered w (load places m bytes) = loadAnswer places m bytes
+answered w (fire t) = fireAnswer w t
+answered w reset = loadedAnswer w
 
 -- the walk after one call
 unfoldable pub called : Walk → Call → Walk
@@ -53,12 +63,37 @@ since w log [] = log
 since w log (c ∷ cs) = since (called w c) (logged w log c) cs
 
 -- the walk is what they amount to: its net and start are those of the last granted load, its count is the number of the firings since load
--- or reset, and its present marking is where they lead from the start
+-- or reset, its present marking is where they lead from the start, and its stored set is that of the transitions enabled there (a new walk has no
+-- transitions, and the empty set)
 pub record Follows (w : Walk) (log : Log) : Type 0 where
   pub net : netIn w ≡ log .net
   pub start : w .start ≡ log .start
   pub count : w .count ≡ length (log .firings)
   pub present : after (log .net) (log .start) (log .firings) ≡ some (w .present)
+  pub next : StoresNext w
+
+-- ---- the steps to offer
+
+-- of a walk made by calls from a new one: firing a transition is granted exactly where it is in the stored set and the count has room
+unfoldable pub OffersSteps : Type 0
+OffersSteps = (cs : List Call) (t : ℕ) → granted (fireAnswer (run empty cs) t) ≡ (member (run empty cs .next) t && ltb (run empty cs .count) 65535)
+
+-- ---- the stored set, of a walk in any condition
+
+-- a granted call leaves the set of the transitions enabled at the present marking, whatever was stored before
+unfoldable pub LeavesNext : Type 0
+LeavesNext = (w : Walk) (c : Call) → granted (answered w c) ≡ true → StoresNext (called w c)
+
+-- nothing else depends on the stored number n: not whether the walk is loaded, no call's answer, not what a granted call leaves, not the marking and
+-- the count that are read; a refused call leaves n, and reading tells it
+pub record AnyStored (w : Walk) (n : ℕ) : Type 0 where
+  pub condition : loaded (storing w n) ≡ loaded w
+  pub answer : (c : Call) → answered (storing w n) c ≡ answered w c
+  pub after-granted : (c : Call) → granted (answered w c) ≡ true → called (storing w n) c ≡ called w c
+  pub after-refused : (c : Call) → granted (answered w c) ≡ false → called (storing w n) c ≡ storing w n
+  pub marking : readMarking (storing w n) ≡ readMarking w
+  pub count : readCount (storing w n) ≡ readCount w
+  pub told : loaded w ≡ true → readNext (storing w n) ≡ n
 
 -- ---- firings alone
 

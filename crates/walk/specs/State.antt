@@ -1,5 +1,7 @@
--- The walk as a value, as document 01 has it ("The walk"): the net that it carries, and when it is loaded. Assumes nothing.
+-- The walk as a value, as document 01 ("The walk") and document 02 (F-2) have it: the net that it carries, the set of the transitions enabled
+-- at its present marking as it is stored, and when it is loaded. Assumes nothing.
 use Prim.Native.Nat.{ℕ}
+use mathlib.Core.Path.{_≡_}
 use mathlib.Core.Bool.{Bool, _&&_}
 use mathlib.Core.List.{List}
 use lib.ListN.{getD, replicate}
@@ -7,6 +9,7 @@ use lib.Dec.{leb}
 use Rattle.tables.specs.Below.{everyBelow}
 use Rattle.bitset.specs.Sets.{within}
 use Rattle.net.specs.declared.Net.{Net}
+use Rattle.net.specs.Step.{next}
 use Rattle.net.specs.Table.{placesGood}
 use Rattle.walk.specs.declared.Walk.{Walk}
 
@@ -26,9 +29,10 @@ startedAt N m =
       start = m;
       present = m;
       count = 0;
+      next = next N m;
     }
 
--- the walk with another present marking and count
+-- the walk with another present marking and count, and the set of the transitions enabled there
 unfoldable pub movedTo : Walk → (m n : ℕ) → Walk
 movedTo w m n =
     record {
@@ -40,6 +44,7 @@ movedTo w m n =
       start = w .start;
       present = m;
       count = n;
+      next = next (netIn w) m;
     }
 
 -- a new walk: all zero
@@ -54,7 +59,27 @@ empty =
       start = 0;
       present = 0;
       count = 0;
+      next = 0;
     }
+
+-- the walk with another stored number
+unfoldable pub storing : Walk → ℕ → Walk
+storing w n =
+    record {
+      places = w .places;
+      transitions = w .transitions;
+      pre = w .pre;
+      post = w .post;
+      action = w .action;
+      start = w .start;
+      present = w .present;
+      count = w .count;
+      next = n;
+    }
+
+-- the stored set is that of the transitions enabled at the present marking
+abbrev pub StoresNext : Walk → Type 0
+StoresNext w = w .next ≡ next (netIn w) (w .present)
 
 -- ---- loaded
 
@@ -66,11 +91,14 @@ setsWithin places pre post t = within places (getD pre t 0) && within places (ge
 unfoldable pub transitionsGood : ℕ → Bool
 transitionsGood n = leb 1 n && leb n 64
 
--- its net and markings would not meet 1, 2, 3 or 7, and its count is at most 65,535
+-- the net of a walk would not meet 1, 2 or 3
+unfoldable pub netGood : (places transitions : ℕ) (pre post : List ℕ) → Bool
+netGood places transitions pre post = (placesGood places && transitionsGood transitions) && everyBelow (setsWithin places pre post) transitions
+
+-- its markings would not meet 7, and its count is at most 65,535
+unfoldable pub stateGood : (places start present count : ℕ) → Bool
+stateGood places start present count = within places start && within places present && leb count 65535
+
+-- both; the stored set does not matter
 unfoldable pub loaded : Walk → Bool
-loaded w =
-    (placesGood (w .places) && transitionsGood (w .transitions))
-    && (everyBelow (setsWithin (w .places) (w .pre) (w .post)) (w .transitions)
-    && within (w .places) (w .start)
-    && within (w .places) (w .present)
-    && leb (w .count) 65535)
+loaded w = netGood (w .places) (w .transitions) (w .pre) (w .post) && stateGood (w .places) (w .start) (w .present) (w .count)

@@ -1,4 +1,5 @@
-// The walk: a net of its own, a start marking, the present marking and the count of firings since load or reset.
+// The walk: a net of its own, a start marking, the present marking, the count of firings since load or reset, and the stored set of the
+// transitions enabled at the present marking.
 ghost use mathlib.Core.Path.{_≡_};
 ghost use Prim.Native.Nat.{_≤_};
 ghost use Rattle.tables.specs.Below as below;
@@ -11,7 +12,8 @@ use net::Refusal;
 // The most firings that a walk counts.
 const MOST: u32 = 65535;
 
-// A walk by value. Being loaded is a condition of the fields (`loaded` of specs/); entries from transitions on are not looked at.
+// A walk by value. Being loaded is a condition of the fields (`loaded` of specs/); entries from transitions on are not looked at. `next` is the stored
+// set: load, fire and reset leave Next there, and only read looks at it.
 pub struct Walk {
     pub places: u32,
     pub transitions: u32,
@@ -21,6 +23,7 @@ pub struct Walk {
     pub start: u64,
     pub present: u64,
     pub count: u32,
+    pub next: u64,
 }
 
 // What a call answers. `answerOf` of specs/ has document 01's numbers.
@@ -37,11 +40,12 @@ pub struct Outcome {
     pub walk: Walk,
 }
 
-// The answer of read: the present marking and the count, both 0 where it is refused.
+// The answer of read: the present marking, the count and the stored set, all 0 where it is refused.
 pub struct Reading {
     pub answer: Answer,
     pub marking: u64,
     pub count: u32,
+    pub next: u64,
 }
 
 // An answer in document 01's numbers; the marking is 0.
@@ -84,19 +88,21 @@ fn sets_within<'a>(places: u32, transitions: u32, pre: &'a [u64; 64], post: &'a 
     true
 }
 
-// Whether the walk is loaded.
-fn loaded(walk: Walk) -> bool
-    ensures { λ r. ⌜ r ≡ state.loaded walk ⌝ }
+// Whether the net of a walk is in good condition. The arrays are lent, so that no call copies the walk for the test.
+fn net_good<'a>(places: u32, transitions: u32, pre: &'a [u64; 64], post: &'a [u64; 64]) -> bool
+    ensures { λ r. ⌜ r ≡ state.netGood places transitions (now (pre .entry)) (now (post .entry)) ⌝ }
 {
-    let places = walk.places;
-    let transitions = walk.transitions;
     if !((1 <= places) & (places <= 64) & ((1 <= transitions) & (transitions <= 64))) {
         return false;
     }
-    sets_within(places, transitions, &walk.pre, &walk.post)
-        & bitset::within(places, walk.start)
-        & bitset::within(places, walk.present)
-        & (walk.count <= MOST)
+    sets_within(places, transitions, pre, post)
+}
+
+// Whether the markings and the count of a walk are in good condition; it is loaded where these and its net are.
+fn state_good(places: u32, start: u64, present: u64, count: u32) -> bool
+    ensures { λ r. ⌜ r ≡ state.stateGood places start present count ⌝ }
+{
+    bitset::within(places, start) & bitset::within(places, present) & (count <= MOST)
 }
 
 impl Walk {
@@ -113,6 +119,7 @@ impl Walk {
             start: 0,
             present: 0,
             count: 0,
+            next: 0,
         }
     }
 
@@ -127,18 +134,21 @@ impl Walk {
             };
         }
         let decoded = net::decode(places, net);
+        let transitions = decoded.transitions;
         let pre = decoded.pre;
         let post = decoded.post;
         let action = decoded.action;
+        let next = net::next(transitions, &pre, &post, marking);
         let walk = Walk {
             places: decoded.places,
-            transitions: decoded.transitions,
+            transitions,
             pre,
             post,
             action,
             start: marking,
             present: marking,
             count: 0,
+            next,
         };
         Outcome {
             answer: Answer::Granted,
@@ -146,11 +156,12 @@ impl Walk {
         }
     }
 
-    // Fires a transition: granted, or the first of 40, 8, 41 and 42.
+    // Fires a transition, by the net and the present marking whatever is stored: granted, or the first of 40, 8, 41 and 42.
     pub fn fire(self, transition: u32) -> Outcome
         ensures { λ r. ⌜ (calls.answerOf (r .answer) ≡ calls.fireAnswer self transition) × (r .walk ≡ calls.fireWalk self transition) ⌝ }
     {
-        if !loaded(self) {
+        if !(net_good(self.places, self.transitions, &self.pre, &self.post)
+            & state_good(self.places, self.start, self.present, self.count)) {
             return Outcome {
                 answer: Answer::Unloaded,
                 walk: self,
@@ -177,12 +188,15 @@ impl Walk {
                 walk: self,
             };
         }
-        let mut next = self;
-        next.present = net::fired_by(pre, post, self.present);
-        next.count = self.count + 1;
+        let present = net::fired_by(pre, post, self.present);
+        let next = net::next(self.transitions, &self.pre, &self.post, present);
+        let mut moved = self;
+        moved.present = present;
+        moved.count = self.count + 1;
+        moved.next = next;
         Outcome {
             answer: Answer::Granted,
-            walk: next,
+            walk: moved,
         }
     }
 
@@ -190,36 +204,42 @@ impl Walk {
     pub fn reset(self) -> Outcome
         ensures { λ r. ⌜ (calls.answerOf (r .answer) ≡ calls.loadedAnswer self) × (r .walk ≡ calls.resetWalk self) ⌝ }
     {
-        if !loaded(self) {
+        if !(net_good(self.places, self.transitions, &self.pre, &self.post)
+            & state_good(self.places, self.start, self.present, self.count)) {
             return Outcome {
                 answer: Answer::Unloaded,
                 walk: self,
             };
         }
+        let next = net::next(self.transitions, &self.pre, &self.post, self.start);
         let mut again = self;
         again.present = self.start;
         again.count = 0;
+        again.next = next;
         Outcome {
             answer: Answer::Granted,
             walk: again,
         }
     }
 
-    // The present marking and the count: granted, or 40 with both 0.
+    // The present marking, the count and the stored set as it stands: granted, or 40 with all 0.
     pub fn read(self) -> Reading
-        ensures { λ r. ⌜ (calls.answerOf (r .answer) ≡ calls.loadedAnswer self) × (r .marking ≡ calls.readMarking self) × (r .count ≡ calls.readCount self) ⌝ }
+        ensures { λ r. ⌜ (calls.answerOf (r .answer) ≡ calls.loadedAnswer self) × (r .marking ≡ calls.readMarking self) × (r .count ≡ calls.readCount self) × (r .next ≡ calls.readNext self) ⌝ }
     {
-        if !loaded(self) {
+        if !(net_good(self.places, self.transitions, &self.pre, &self.post)
+            & state_good(self.places, self.start, self.present, self.count)) {
             return Reading {
                 answer: Answer::Unloaded,
                 marking: 0,
                 count: 0,
+                next: 0,
             };
         }
         Reading {
             answer: Answer::Granted,
             marking: self.present,
             count: self.count,
+            next: self.next,
         }
     }
 }

@@ -1,6 +1,5 @@
 -- `sample_walks::call` meets its contract. Assumes nothing.
 use Rattle.walk.specs.History as history
-use Rattle.sample_walks.specs.Samples as samples
 use Rattle.sample_walks.proofs.Calling.{by-number, resets, loads-r, loads-beyond, loads-forward, fires}
 use borrow.Author.Needs.{needs}
 use Rattle.sample_walks.proofs.call.Statement.{statement}
@@ -37,26 +36,26 @@ fire-requires : tie.Need-fire-requires
 fire-requires c κs = search needs
 
 returns : tie.Need-returns
-unfolding samples.answered history.called
+unfolding history.answered history.called
 returns c = by-number _ _ _ _ _ (resets (c .before .match .keys1)) (c .reset .ensures .0) (c .reset .ensures .1)
 
 returns-2 : tie.Need-returns-2
-unfolding samples.answered history.called
+unfolding history.answered history.called
 returns-2 c = let net = c .before .before .before .net-r .ensures in
     by-number _ _ _ _ _ (loads-r (c .before .before .match .keys2)) (rw net at (c .load .ensures .0)) (rw net at (c .load .ensures .1))
 
 returns-3 : tie.Need-returns-3
-unfolding samples.answered history.called
+unfolding history.answered history.called
 returns-3 c = let net = c .before .before .before .net-r .ensures in
     by-number _ _ _ _ _ (loads-beyond (c .before .before .match .keys3)) (rw net at (c .load2 .ensures .0)) (rw net at (c .load2 .ensures .1))
 
 returns-4 : tie.Need-returns-4
-unfolding samples.answered history.called
+unfolding history.answered history.called
 returns-4 c = let net = c .before .before .transition .ensures in
     by-number _ _ _ _ _ (loads-forward (c .before .before .before .match .keys4)) (rw net at (c .load3 .ensures .0)) (rw net at (c .load3 .ensures .1))
 
 returns-5 : tie.Need-returns-5
-unfolding samples.answered history.called
+unfolding history.answered history.called
 returns-5 c = let no = c .before .match .rest in
     by-number _ _ _ _ _ (fires _ (no .0 .0 .0 .1) (no .0 .0 .1) (no .0 .1) (no .1)) (c .fire .ensures .0) (c .fire .ensures .1)
 

@@ -14,7 +14,7 @@ answer-numbers-requires : tie.Need-answer-numbers-requires
 answer-numbers-requires c κs = search needs
 
 returns : tie.Need-returns
-returns c = in-seen _ _ _ _ _ (c .answer-numbers .ensures) (rw (c .before .before .after .ensures) at (c .before .read .ensures))
+returns c = in-seen _ _ _ _ _ _ (c .answer-numbers .ensures) (rw (c .before .before .after .ensures) at (c .before .read .ensures))
 
 pub reading-spec : {M : Type 1} → statement M
 reading-spec = tie.close (tie.spec after-requires read-requires answer-numbers-requires returns)
