@@ -14,12 +14,11 @@ use lib.ListN.{length, length-append}
 use Rattle.tables.proofs.Tests.{and-left, and-right, and-intro, if-true, if-false}
 use Rattle.net.specs.declared.Net.{Net}
 use lib.Dec.{ltb}
-use borrow.Author.Tests.{le-ltb}
 use Rattle.bitset.specs.Sets.{member, collect}
-use Rattle.bitset.proofs.Relations.{member-collect}
 use Rattle.net.specs.Step.{enabled, fired, next}
 use Rattle.net.specs.Table.{netOf}
 use Rattle.net.specs.Sequence.{after}
+use Rattle.net.proofs.Loops.{next-member, enabled-out}
 use Rattle.walk.specs.declared.Walk.{Walk}
 use Rattle.walk.specs.State.{netIn, startedAt, movedTo, empty, storing, StoresNext, loaded}
 use Rattle.walk.specs.Calls.{granted, loadAnswer, loadWalk, fireAnswer, fireWalk, loadedAnswer, resetWalk, readMarking, readCount}
@@ -126,31 +125,21 @@ made (c ∷ cs) = by (called empty c) (new-called c) (made cs)
     by w (inl h) rest = inl (run-loaded w cs h)
     by w (inr e) rest = subst (λ v. Made (run v cs)) (sym e) rest
 
--- the members of Next
-in-next : (N : Net) (m t : ℕ) → member (next N m) t ≡ enabled N m t
-unfolding next enabled
-in-next N m t = member-collect (enabled N m) (N .transitions) t ∙ by (ltb t (N .transitions)) _
-  where
-    by : (a e : Bool) → (a && (a && e)) ≡ (a && e)
-    by true e = refl
-    by false e = refl
-
--- of a new walk nothing is granted, and its set is empty
-new-offers : (t : ℕ) → granted (fireAnswer empty t) ≡ (member (empty .next) t && ltb (empty .count) 65535)
-unfolding empty collect
-new-offers t =
-    grants-where empty t
-    ∙ ap (λ b. b && (enabled (netIn empty) 0 t && true)) new-unloaded
-    ∙ sym (ap (λ b. b && true) (member-collect (λ k. true) 0 t ∙ ap (λ b. b && true) (le-ltb t 0 zero-le)))
-
 offers : (w : Walk) (t : ℕ) → StoresNext w → Made w → granted (fireAnswer w t) ≡ (member (w .next) t && ltb (w .count) 65535)
-unfolding Made
-offers w t q (inl h) =
-    let room = ltb (w .count) 65535 in
-    grants-where w t
-    ∙ ap (λ b. b && (enabled (netIn w) (w .present) t && room)) h
-    ∙ sym (ap (λ b. b && room) (ap (λ (s : ℕ). member s t) q ∙ in-next (netIn w) (w .present) t))
-offers w t q (inr e) = subst (λ v. granted (fireAnswer v t) ≡ (member (v .next) t && ltb (v .count) 65535)) (sym e) (new-offers t)
+unfolding Made empty netIn
+offers w t q p = grants-where w t ∙ by p ∙ sym (ap (λ b. b && room) (ap (λ (s : ℕ). member s t) q ∙ next-member (netIn w) (w .present) t))
+  where
+    can : Bool
+    can = enabled (netIn w) (w .present) t
+
+    room : Bool
+    room = ltb (w .count) 65535
+
+    by : Made w → (loaded w && (can && room)) ≡ (can && room)
+    by (inl h) = ap (λ b. b && (can && room)) h
+    by (inr e) =
+        ap (λ b. b && (can && room)) (ap loaded e ∙ new-unloaded)
+        ∙ sym (ap (λ b. b && room) (ap (λ v. enabled (netIn v) (v .present) t) e ∙ enabled-out (netIn empty) 0 t zero-le))
 
 pub offers-steps : OffersSteps
 unfolding OffersSteps
