@@ -51,6 +51,10 @@ static const bench_case cases[] = {
     {"label-first", 'l', {"full", "full"}, 0, 0, 0},
     {"label-last", 'l', {"full", "full"}, 1999, 0, 0},
     {"label-none", 'l', {"full", "full"}, 5000, 0, 0},
+    {"own-first", 'l', {"own", "own"}, 10, 0, 0},
+    {"own-middle", 'l', {"own", "own"}, 10000, 0, 0},
+    {"own-last", 'l', {"own", "own"}, 20000, 0, 0},
+    {"own-low", 'l', {"own", "own"}, 5, 0, 0},
 };
 
 static void *need(void *found, const char *what)

@@ -7,17 +7,17 @@ use Prim.Native.Nat.{ℕ, _<_}
 use native.Mathlib.Omega.{arith}
 use lib.ListN.{length, take, drop}
 use lib.Dec.{eqb, leb, ltb}
-use borrow.Author.Tests.{ltb-true, lt-ltb, leb-true, eqb-true, eq-eqb, ne-eqb, not-false}
+use borrow.Author.Tests.{ltb-true, lt-ltb, leb-true, eqb-true, eq-eqb, not-false}
 use Rattle.tables.specs.Lists.{first}
 use Rattle.tables.specs.Below.{someBelow}
 use Rattle.tables.proofs.Below.{some-is}
 use Rattle.tables.proofs.Tests.{and-left, and-right}
-use Rattle.tables.proofs.Entries.{at-first, first-is}
+use Rattle.tables.proofs.Entries.{at-first}
 use Rattle.category.specs.Records.{count, actionAt, kindAt, lenderAt, textLength, spareZero, hasAction, lendsAt, lends}
 use Rattle.category.specs.Faults.{ascends, textIs, textGood, ownGood, borrowGood, kindGood, recordBad, faultless}
 use Rattle.category.specs.Labels.{ownText, has, recordOf, sourceOf, textSize, textOf}
-use Rattle.category.proofs.Scan.{first-lowest}
 use Rattle.category.proofs.Ascent.{Rising, rising}
+use Rattle.category.proofs.Search.{record-is, record-first, lender-first}
 use Rattle.category.proofs.Sources.{source-own, source-lender, offset-in, size-in, length-text, lacks}
 use Rattle.category.proofs.Answers.{faultless-record}
 
@@ -40,27 +40,19 @@ module _ (file : List ℕ) (g : faultless file ≡ true) where
   unfolding recordBad
   good i l = not-false _ (faultless-record file g i l)
 
-  rises : Rising file (count file)
+  pub rises : Rising file (count file)
   rises = rising file (count file) λ k l. and-left (ascends file k) (spareZero file k) (and-left (ascends file k && spareZero file k) (kindGood file k) (good k l))
 
   by-kind : (i : ℕ) → i < count file → ((kindAt file i ≡ 0) × (ownGood file i ≡ true)) ⊎ ((kindAt file i ≡ 1) × (borrowGood file i ≡ true))
   unfolding kindGood
   by-kind i l = kinds (kindAt file i) (ownGood file i) (borrowGood file i) (and-right (ascends file i && spareZero file i) (kindGood file i) (good i l))
 
-  -- the lowest record of an action is the one that has it
-  record-of : (i : ℕ) → i < count file → i ≡ recordOf file (actionAt file i)
-  unfolding recordOf hasAction
-  record-of i l = sym (first-is (hasAction file (actionAt file i)) (count file) i l lower (eq-eqb (actionAt file i) (actionAt file i) refl))
-    where
-      lower : (k : ℕ) → k < i → eqb (actionAt file k) (actionAt file i) ≡ false
-      lower k h = ne-eqb (actionAt file k) (actionAt file i) (λ e. omega (arith, rises .rises k i h l))
-
   pub has-own : (i : ℕ) → i < count file → has file (actionAt file i) ≡ true
   unfolding has hasAction
   has-own i l = some-is (hasAction file (actionAt file i)) (count file) i l (eq-eqb (actionAt file i) (actionAt file i) refl)
 
   pub text-own : (i : ℕ) → i < count file → kindAt file i ≡ 0 → textOf file (actionAt file i) ≡ ownText file i
-  text-own i l k = text-of file (actionAt file i) i (source-own file (actionAt file i) i (record-of i l) l (λ e. omega arith)) l
+  text-own i l k = text-of file (actionAt file i) i (source-own file (actionAt file i) i (record-is rises i l) l (λ e. omega arith)) l
 
   -- a text of its own is not empty
   own-some : (i : ℕ) → i < count file → kindAt file i ≡ 0 → 0 < textLength file i
@@ -74,20 +66,20 @@ module _ (file : List ℕ) (g : faultless file ≡ true) where
 
   -- the text of an action that has a record comes from a record of kind 0
   source-good : (a : ℕ) → has file a ≡ true → (j : ℕ) × (j < count file) × (kindAt file j ≡ 0) × (j ≡ sourceOf file a)
-  unfolding has someBelow recordOf borrowGood lends lendsAt
+  unfolding has someBelow borrowGood lends lendsAt
   source-good a h = ⊎-elim own borrowed (by-kind i l)
     where
       i : ℕ
       i = recordOf file a
 
       l : i < count file
-      l = ltb-true i (count file) h
+      l = subst (λ (x : ℕ). x < count file) (sym (record-first rises a)) (ltb-true (first (hasAction file a) (count file)) (count file) h)
 
       own : (kindAt file i ≡ 0) × (ownGood file i ≡ true) → (j : ℕ) × (j < count file) × (kindAt file j ≡ 0) × (j ≡ sourceOf file a)
       own p = (i, l, p .0, source-own file a i refl l (λ e. omega (arith, p .0)))
 
       borrowed : (kindAt file i ≡ 1) × (borrowGood file i ≡ true) → (j : ℕ) × (j < count file) × (kindAt file j ≡ 0) × (j ≡ sourceOf file a)
-      borrowed p = (j, below, kind, source-lender file a i j refl l (p .0) (first-lowest (lendsAt file (lenderAt file i)) (count file)))
+      borrowed p = (j, below, kind, source-lender file a i refl j l (p .0) (sym (lender-first rises (lenderAt file i))))
         where
           j : ℕ
           j = first (lendsAt file (lenderAt file i)) (count file)

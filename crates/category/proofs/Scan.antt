@@ -8,7 +8,7 @@ use native.Mathlib.Omega.{arith}
 use lib.Dec.{ltb}
 use Rattle.tables.specs.Below.{someBelow}
 use Rattle.tables.specs.Lists.{first}
-use Rattle.tables.proofs.Entries.{first-is, first-none, before-first, at-first, first-le}
+use Rattle.tables.proofs.Entries.{first-is, first-none}
 use Rattle.tables.proofs.Below.{lt-or-ge}
 use Rattle.category.specs.Serving.{LowestFrom}
 
@@ -43,9 +43,6 @@ passed-all {f} {n} {i} p l = sym (first-none f n (λ k q. p .before k zero-le (o
 -- a scan that stops
 pub passed-lowest : {f : ℕ → Bool} {from n i : ℕ} → Passed f from n i → (i < n → f i ≡ true) → LowestFrom f from n i
 passed-lowest p e = record { start = p .start; end = p .end; before = p .before; found = e }
-
-pub first-lowest : (f : ℕ → Bool) (n : ℕ) → LowestFrom f 0 n (first f n)
-first-lowest f n = record { start = zero-le; end = first-le f n; before = λ k _ l. before-first f n k l; found = at-first f n }
 
 pub lowest-first : {f : ℕ → Bool} {n r : ℕ} → LowestFrom f 0 n r → r ≡ first f n
 lowest-first {f} {n} {r} p = ⊎-elim at (λ l. sym (first-is f n r l (λ k q. p .before k zero-le q) (p .found l))) (eq-or-lt-of-le (p .end))

@@ -1,5 +1,5 @@
 -- The record that has the text of an action, and the part of the file that is its text, which lies inside the file. Assumes nothing.
-use mathlib.Core.Path.{_≡_, refl, sym, ap, _∙_}
+use mathlib.Core.Path.{_≡_, refl, sym, _∙_}
 use mathlib.Core.Bool.{Bool, true, false, cond}
 use mathlib.Core.List.{List}
 use Prim.Native.Nat.{ℕ, _+_, _-_, _*_, _≤_, _<_}
@@ -9,37 +9,32 @@ use lib.Seq.{length-take-le}
 use lib.Dec.{eqb, ltb}
 use borrow.Author.Tests.{lt-ltb, le-ltb, eq-eqb, ne-eqb, ltb-true, ltb-false}
 use Rattle.tables.specs.Below.{someBelow}
+use Rattle.tables.specs.Lists.{first}
 use Rattle.tables.proofs.Tests.{if-true, if-false}
 use Rattle.tables.proofs.Entries.{first-le}
 use Rattle.tables.proofs.Counts.{record-inside}
-use Rattle.category.specs.Records.{count, kindAt, lenderAt, textByte, textLength, lendsAt}
+use Rattle.category.specs.Records.{count, kindAt, lenderAt, textByte, textLength, hasAction}
 use Rattle.category.specs.Labels.{has, recordOf, lenderOf, sourceAt, sourceOf, textOffset, textSize, textOf}
-use Rattle.category.specs.Serving.{LowestFrom}
-use Rattle.category.proofs.Scan.{lowest-first}
+use Rattle.category.proofs.Search.{record-none}
 
 module _ (file : List ℕ) (a : ℕ) where
-  pub has-is : (i : ℕ) → i ≡ recordOf file a → ltb i (count file) ≡ has file a
-  unfolding recordOf has someBelow
-  has-is i e = ap (λ (x : ℕ). ltb x (count file)) e
+  -- the source, by the record i that the search answers
+  module _ (i : ℕ) (e : i ≡ recordOf file a) where
+    pub source-none : count file ≤ i → count file ≡ sourceOf file a
+    unfolding sourceOf
+    source-none l = rw (← e, le-ltb i (count file) l)
 
-  pub source-none : (i : ℕ) → i ≡ recordOf file a → count file ≤ i → count file ≡ sourceOf file a
-  unfolding sourceOf
-  source-none i e l = sym (if-false _ _ _ (sym (has-is i e) ∙ le-ltb i (count file) l))
+    source-at : i < count file → sourceAt file i ≡ sourceOf file a
+    unfolding sourceOf
+    source-at l = rw (← e, lt-ltb i (count file) l)
 
-  source-at : (i : ℕ) → i ≡ recordOf file a → i < count file → sourceAt file i ≡ sourceOf file a
-  unfolding sourceOf
-  source-at i e l =
-      ap (sourceAt file) e ∙ sym (if-true _ _ _ (sym (has-is i e) ∙ lt-ltb i (count file) l))
+    pub source-lender : (r : ℕ) → i < count file → kindAt file i ≡ 1 → r ≡ lenderOf file (lenderAt file i) → r ≡ sourceOf file a
+    unfolding sourceAt
+    source-lender r l k p = p ∙ sym (if-true _ _ _ (eq-eqb (kindAt file i) 1 k)) ∙ source-at l
 
-  pub source-lender : (i r : ℕ) → i ≡ recordOf file a → i < count file → kindAt file i ≡ 1
-      → LowestFrom (lendsAt file (lenderAt file i)) 0 (count file) r → r ≡ sourceOf file a
-  unfolding sourceAt lenderOf
-  source-lender i r e l k p =
-      lowest-first p ∙ sym (if-true _ _ _ (eq-eqb (kindAt file i) 1 k)) ∙ source-at i e l
-
-  pub source-own : (i : ℕ) → i ≡ recordOf file a → i < count file → (kindAt file i ≡ 1 → ⊥) → i ≡ sourceOf file a
-  unfolding sourceAt
-  source-own i e l k = sym (if-false _ _ _ (ne-eqb (kindAt file i) 1 k)) ∙ source-at i e l
+    pub source-own : i < count file → (kindAt file i ≡ 1 → ⊥) → i ≡ sourceOf file a
+    unfolding sourceAt
+    source-own l k = sym (if-false _ _ _ (ne-eqb (kindAt file i) 1 k)) ∙ source-at l
 
   -- the part, by the record
   module _ (i : ℕ) (e : i ≡ sourceOf file a) where
@@ -81,7 +76,8 @@ length-text file a = length-take-le (textSize file a) (drop (textOffset file a) 
 
 -- no record, no text
 pub lacks : (file : List ℕ) (a : ℕ) → has file a ≡ false → 0 ≡ textSize file a
-lacks file a e = size-out file a (count file) none (omega arith)
+unfolding has someBelow
+lacks file a e = size-out file a (count file) (source-none file a (count file) (sym none) (omega arith)) (omega arith)
   where
-    none : count file ≡ sourceOf file a
-    none = source-none file a (recordOf file a) refl (ltb-false (recordOf file a) (count file) (has-is file a (recordOf file a) refl ∙ e))
+    none : recordOf file a ≡ count file
+    none = record-none file a (ltb-false (first (hasAction file a) (count file)) (count file) e)

@@ -1,13 +1,14 @@
--- The text of an action in one file, and the label from two files. Document 01: "The label of an action comes from the translation if
--- that has the action, otherwise from the house file". Assumes nothing.
+-- The search in one file, the text of an action there, and the label from two files. Document 01: "The label of an action comes from the
+-- translation if that has the action, otherwise from the house file". Document 02, F-3, the search: "stop at the first record whose action
+-- is equal or greater. By itself, over records in any order, it answers that record if equal and otherwise nothing". Assumes nothing.
 use Prim.Native.Nat.{ℕ, _+_, _*_}
 use mathlib.Core.Bool.{Bool, cond, _&&_}
 use mathlib.Core.List.{List, []}
 use lib.ListN.{take, drop}
-use lib.Dec.{eqb, ltb}
+use lib.Dec.{eqb, leb, ltb}
 use Rattle.tables.specs.Below.{someBelow}
 use Rattle.tables.specs.Lists.{first}
-use Rattle.category.specs.Records.{recordSize, textStart, count, kindAt, lenderAt, textLength, hasAction, lendsAt}
+use Rattle.category.specs.Records.{recordSize, textStart, count, actionAt, kindAt, lenderAt, textLength, hasAction}
 use Rattle.category.specs.Faults.{faultless}
 use Rattle.category.specs.declared.LabelPlace.{LabelPlace}
 
@@ -19,13 +20,21 @@ ownText file i = take (textLength file i) (drop (i * recordSize + textStart) fil
 unfoldable pub has : List ℕ → ℕ → Bool
 has file a = someBelow (hasAction file a) (count file)
 
--- the lowest record of the action a; the number of records where there is none
-unfoldable pub recordOf : List ℕ → ℕ → ℕ
-recordOf file a = first (hasAction file a) (count file)
+-- record i has the action a or a greater one
+unfoldable pub reaches : List ℕ → ℕ → ℕ → Bool
+reaches file a i = leb a (actionAt file i)
 
--- the lowest record that lends the text of the action a; the number of records where there is none
+-- where the search for the action a stops: at the first record that has it or a greater one, at the end where there is none
+unfoldable pub stopOf : List ℕ → ℕ → ℕ
+stopOf file a = first (reaches file a) (count file)
+
+-- what the search for the action a answers: the record where it stops, if that has the action; nothing is the number of records
+unfoldable pub recordOf : List ℕ → ℕ → ℕ
+recordOf file a = cond (ltb (stopOf file a) (count file) && hasAction file a (stopOf file a)) (stopOf file a) (count file)
+
+-- the record that lends the text of the action a: what the search answers, if its kind byte is 0; else the number of records
 unfoldable pub lenderOf : List ℕ → ℕ → ℕ
-lenderOf file a = first (lendsAt file a) (count file)
+lenderOf file a = cond (eqb (kindAt file (recordOf file a)) 0) (recordOf file a) (count file)
 
 -- the record that record i takes its text from: at kind byte 1 that of the lender, else itself
 unfoldable pub sourceAt : List ℕ → ℕ → ℕ
@@ -33,7 +42,7 @@ sourceAt file i = cond (eqb (kindAt file i) 1) (lenderOf file (lenderAt file i))
 
 -- the record that has the text of the action a; the number of records where there is none
 unfoldable pub sourceOf : List ℕ → ℕ → ℕ
-sourceOf file a = cond (has file a) (sourceAt file (recordOf file a)) (count file)
+sourceOf file a = cond (ltb (recordOf file a) (count file)) (sourceAt file (recordOf file a)) (count file)
 
 -- where that text starts in the file: 0 where there is none
 unfoldable pub textOffset : List ℕ → ℕ → ℕ

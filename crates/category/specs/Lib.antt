@@ -2,5 +2,6 @@
 pub mod Records
 pub mod Faults
 pub mod Labels
+pub mod Earlier
 pub mod Loader
 pub mod Serving

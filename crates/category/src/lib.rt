@@ -96,6 +96,14 @@ fn has_action(file: &[u8], action: u16, i: usize) -> bool
     action_at(file, i) == action
 }
 
+// Whether it has an action or a greater one.
+fn reaches(file: &[u8], action: u16, i: usize) -> bool
+    requires { ⌜ i < records.count (now file) ⌝ }
+    ensures { λ r. ⌜ r ≡ labels.reaches (now (file .entry)) action i ⌝ }
+{
+    action <= action_at(file, i)
+}
+
 // Whether it lends the text of an action.
 fn lends_at(file: &[u8], action: u16, i: usize) -> bool
     requires { ⌜ i < records.count (now file) ⌝ }
@@ -121,17 +129,31 @@ fn text_length(file: &[u8], i: usize) -> usize
     TEXT_ROOM
 }
 
-// The lowest record of an action, or the number of records.
-fn find(file: &[u8], action: u16) -> usize
-    ensures { λ r. ⌜ r ≡ labels.recordOf (now (file .entry)) action ⌝ }
+// Where the search for an action stops: the first record whose action is equal or greater, or the number of records.
+fn stop(file: &[u8], action: u16) -> usize
+    ensures { λ r. ⌜ r ≡ labels.stopOf (now (file .entry)) action ⌝ }
 {
     let n = file.len() / RECORD;
     let mut i: usize = 0;
     while i < n {
-        if has_action(file, action, i) {
+        if reaches(file, action, i) {
             return i;
         }
         i += 1;
+    }
+    n
+}
+
+// The record where the search for an action stops, if that has the action; else the number of records.
+fn find(file: &[u8], action: u16) -> usize
+    ensures { λ r. ⌜ r ≡ labels.recordOf (now (file .entry)) action ⌝ }
+{
+    let n = file.len() / RECORD;
+    let i = stop(file, action);
+    if i < n {
+        if has_action(file, action, i) {
+            return i;
+        }
     }
     n
 }
@@ -365,6 +387,20 @@ pub fn check_numbers(answer: Checked) -> Numbers
 
 // ---- labels
 
+// The record that lends the text of an action: the one that the search finds, if its kind byte is 0; else the number of records.
+fn lender(file: &[u8], action: u16) -> usize
+    ensures { λ r. ⌜ r ≡ labels.lenderOf (now (file .entry)) action ⌝ }
+{
+    let n = file.len() / RECORD;
+    let i = find(file, action);
+    if i < n {
+        if kind_at(file, i) == 0 {
+            return i;
+        }
+    }
+    n
+}
+
 // The record that has the text of an action, or the number of records.
 fn source(file: &[u8], action: u16) -> usize
     ensures { λ r. ⌜ r ≡ labels.sourceOf (now (file .entry)) action ⌝ }
@@ -375,7 +411,7 @@ fn source(file: &[u8], action: u16) -> usize
         return n;
     }
     if kind_at(file, i) == 1 {
-        return find_lender(file, lender_at(file, i), 0);
+        return lender(file, lender_at(file, i));
     }
     i
 }

@@ -1,5 +1,5 @@
-// The samples of labels and of category files. A line has a name, the check's number and record, the label's file, offset and length, and
-// its bytes.
+// The samples of labels and of category files. A line of a label has a name, the check's number and record, the label's file, offset and
+// length, and its bytes; a line of a text, the lookup in one file by itself, a name, the text's length and its bytes.
 use crate::lines::end;
 use crate::lines::number;
 use crate::lines::print;
@@ -141,6 +141,24 @@ fn own() {
     sample(names, 7, back, ahead, 7);
     sample(names, 8, ahead, back, 5);
     sample(names, 9, none, back, 7);
+}
+
+// The label of an action that the house file alone has, beside a translation of the actions 5 and 600.
+fn beside(names: &[u8], i: u32, action: u16) {
+    let no = record(5, 0, 0, b'N', b'o');
+    let up = record(600, 0, 0, b'U', b'p');
+    let go = record(action, 0, 0, b'G', b'o');
+    sample(names, i, file(64, no, up), file(32, go, no), action);
+}
+
+// An action below, between and above those of the translation.
+fn gaps() {
+    let names: &[u8] = b"below the first:\n\
+        between two:\n\
+        above the last:\n";
+    beside(names, 0, 4);
+    beside(names, 1, 6);
+    beside(names, 2, 601);
 }
 
 // ---- translations of one record
@@ -292,13 +310,106 @@ fn most() {
     many(names, 2, 3, 64032);
 }
 
+// ---- texts of one file, which is not checked
+
+// Looks the text of an action up, and prints what comes.
+fn text(names: &[u8], i: u32, file: &[u8], action: u16) {
+    let found = category::text(file, action);
+    print(b"text, ");
+    print_name(names, i);
+    number(found.len() as u64);
+    bytes(found);
+    end();
+}
+
+// Looks a text up in a file of at most two records.
+fn alone(names: &[u8], i: u32, file: Contents, action: u16) {
+    let t = table(file);
+    let n = file.size;
+    if 64 < n {
+        return;
+    }
+    text(names, i, &t[..n], action);
+}
+
+// Looks a text up in a file of three records.
+fn three(names: &[u8], i: u32, first: Fields, second: Fields, third: Fields, action: u16) {
+    let mut t = [0u8; 96];
+    put(&mut t, 0, first);
+    put(&mut t, 1, second);
+    put(&mut t, 2, third);
+    text(names, i, &t, action);
+}
+
+// Actions that the file has and lacks; records out of order; a record that is not whole; a kind that is none.
+fn order() {
+    let names: &[u8] = b"below the first:\n\
+        the first:\n\
+        between two:\n\
+        the last:\n\
+        above the last:\n\
+        behind a greater action:\n\
+        before a greater action:\n\
+        behind a lower and a greater action:\n\
+        equal actions:\n\
+        63 bytes:\n\
+        kind 2:\n";
+    let no = record(5, 0, 0, b'N', b'o');
+    let go = record(7, 0, 0, b'G', b'o');
+    let up = record(600, 0, 0, b'U', b'p');
+    let two = file(64, no, up);
+    alone(names, 0, two, 4);
+    alone(names, 1, two, 5);
+    alone(names, 2, two, 6);
+    alone(names, 3, two, 600);
+    alone(names, 4, two, 601);
+    three(names, 5, up, no, go, 5);
+    three(names, 6, no, up, go, 5);
+    three(names, 7, no, up, go, 7);
+    alone(names, 8, file(64, no, record(5, 0, 0, b'G', b'o')), 5);
+    alone(names, 9, file(63, no, up), 600);
+    alone(names, 10, file(32, record(5, 2, 0, b'N', b'o'), up), 5);
+}
+
+// Lenders before and after, behind a greater action, and of another kind than 0.
+fn lenders() {
+    let names: &[u8] = b"borrowed:\n\
+        borrowed from after:\n\
+        lender behind a greater action:\n\
+        lender before a greater action:\n\
+        lender of kind 1, then one of kind 0:\n\
+        lender of kind 2:\n";
+    let go = record(5, 0, 0, b'G', b'o');
+    let borrower = record(7, 1, 5, 0, 0);
+    let up = record(600, 0, 0, b'U', b'p');
+    alone(names, 0, file(64, go, borrower), 7);
+    alone(
+        names,
+        1,
+        file(64, record(5, 1, 7, 0, 0), record(7, 0, 0, b'N', b'o')),
+        5,
+    );
+    three(names, 2, borrower, up, go, 7);
+    three(names, 3, go, borrower, record(6, 0, 0, b'N', b'o'), 7);
+    alone(names, 4, file(64, record(5, 1, 5, 0, 0), go), 5);
+    alone(
+        names,
+        5,
+        file(64, record(5, 1, 7, 0, 0), record(7, 2, 0, b'N', b'o')),
+        5,
+    );
+}
+
 // All samples of labels and of category files.
 pub(crate) fn print_all() {
     own();
+    gaps();
     texts();
     chain();
     faulty();
     spares();
     hidden();
     most();
+    order();
+    lenders();
 }

@@ -29,7 +29,7 @@ impl Bench {
 /// A name and what makes the case.
 type Named = (&'static str, fn() -> Bench);
 
-pub const CASES: [Named; 21] = [
+pub const CASES: [Named; 25] = [
     ("tree: R, 23 nodes", || tree_bench(families::r_holds())),
     ("tree: trail of 32767", || {
         tree_bench(families::trail_chain(32_767))
@@ -60,6 +60,10 @@ pub const CASES: [Named; 21] = [
     ("label: full, none", || {
         label_bench(full_file(), full_file(), 5000)
     }),
+    ("label: own texts, first", || own_bench(10)),
+    ("label: own texts, middle", || own_bench(10_000)),
+    ("label: own texts, last", || own_bench(20_000)),
+    ("label: own texts, low", || own_bench(5)),
     ("pnml: write R", || write_bench(3, 3, encode::net(&NET_R))),
     ("pnml: write 8192 arcs", || write_bench(64, 5, net_of(64))),
     ("pnml: read R", || {
@@ -139,6 +143,16 @@ fn full_file() -> Vec<u8> {
         false => named(action, b"a text of 24 bytes, full"),
     };
     (0..CATEGORIES as u16).flat_map(record).collect()
+}
+
+/// 2,000 records with a text of their own, actions 10 to 20,000 in tens.
+fn own_file() -> Vec<u8> {
+    let record = |i: u16| named(10 * i, b"a text of 24 bytes, full");
+    (1..=CATEGORIES as u16).flat_map(record).collect()
+}
+
+fn own_bench(action: u16) -> Bench {
+    label_bench(own_file(), own_file(), action)
 }
 
 fn small_file(first: u16) -> Vec<u8> {
@@ -273,6 +287,7 @@ pub fn write(folder: &Path) -> std::io::Result<()> {
     }
     std::fs::write(folder.join("large.net"), large_net())?;
     std::fs::write(folder.join("full"), full_file())?;
+    std::fs::write(folder.join("own"), own_file())?;
     std::fs::write(folder.join("small.1"), small_file(1))?;
     std::fs::write(folder.join("small.2"), small_file(2))
 }

@@ -1,52 +1,24 @@
--- `category::find` meets its contract. The loop's invariant: no record passed has the action. Assumes nothing.
+-- `category::find` meets its contract. Assumes nothing.
 use mathlib.Core.Path.{sym, _∙_}
-use Prim.Native.Nat.{_-_}
 use borrow.Author.Needs.{needs}
-use Rattle.category.specs.Labels.{recordOf}
-use Rattle.category.specs.Records.{hasAction}
-use Rattle.category.proofs.Scan.{Passed, passed-none, passed-more, passed-first, passed-all}
+use Rattle.category.proofs.Search.{record-hit, record-other, record-end}
 use Rattle.category.proofs.find.Statement.{statement}
 use Rattle.category.proofs.find.Tie as tie
 
-abbrev Inv-loop : tie.InvT-loop
-Inv-loop file action n i₀ i = Passed (hasAction file action) 0 n i
+stop-requires : tie.Need-stop-requires
+stop-requires c κs = search needs
 
-abbrev μ-loop : tie.MeasureT-loop
-μ-loop file action n i₀ i = n - i
-
-loop-holds : tie.Need-loop-holds Inv-loop μ-loop
-loop-holds c = passed-none _ _ _ (search needs)
-
-has-action-requires : tie.Need-has-action-requires Inv-loop μ-loop
+has-action-requires : tie.Need-has-action-requires
 has-action-requires c κs = search needs
 
-returns : tie.Need-returns Inv-loop μ-loop
-unfolding recordOf
-returns c = passed-first (c .before .before .before .loop .inv) (search needs) (sym (c .before .has-action .ensures) ∙ c .if1 .taken)
+returns : tie.Need-returns
+returns c = record-hit _ _ _ (c .before .before .before .stop .ensures) (search needs) (sym (c .before .has-action .ensures) ∙ c .if2 .taken)
 
-add-i : tie.Need-add-i Inv-loop μ-loop
-add-i c = search needs
+returns-2 : tie.Need-returns-2
+returns-2 c = record-other _ _ _ (c .before .before .before .stop .ensures) (search needs) (sym (c .before .has-action .ensures) ∙ c .if2 .left)
 
-loop-less : tie.Need-loop-less Inv-loop μ-loop
-loop-less c = search needs
-
-loop-again : tie.Need-loop-again Inv-loop μ-loop
-loop-again c = passed-more (c .before .before .before .loop .inv) (search needs) (sym (c .before .has-action .ensures) ∙ c .if1 .left)
-
-returns-2 : tie.Need-returns-2 Inv-loop μ-loop
-unfolding recordOf
-returns-2 c = passed-all (c .before .loop .inv) (search needs)
+returns-3 : tie.Need-returns-3
+returns-3 c = record-end _ _ _ (c .before .stop .ensures) (search needs)
 
 pub find-spec : {M : Type 1} → statement M
-find-spec =
-    tie.close
-    (tie.spec
-    Inv-loop
-    μ-loop
-    loop-holds
-    has-action-requires
-    returns
-    add-i
-    loop-less
-    loop-again
-    returns-2)
+find-spec = tie.close (tie.spec stop-requires has-action-requires returns returns-2 returns-3)

@@ -17,19 +17,19 @@ kind-at-requires c κs = search needs
 lender-at-requires : tie.Need-lender-at-requires
 lender-at-requires c κs = search needs
 
-find-lender-requires : tie.Need-find-lender-requires
-find-lender-requires c κs = search needs
+lender-requires : tie.Need-lender-requires
+lender-requires c κs = search needs
 
 returns-2 : tie.Need-returns-2
 returns-2 c = source-lender
     _
     _
     _
-    _
     (c .before .before .before .before .before .find .ensures)
+    _
     (search needs)
     (sym (c .before .before .before .kind-at .ensures) ∙ c .before .before .if2 .taken)
-    (rw (← c .before .lender-at .ensures) (c .find-lender .ensures))
+    (rw (← c .before .lender-at .ensures) (c .lender .ensures))
 
 returns-3 : tie.Need-returns-3
 returns-3 c = source-own _ _ _ (c .before .before .before .find .ensures) (search needs) (λ e. c .if2 .left (c .before .kind-at .ensures ∙ e))
@@ -42,6 +42,6 @@ source-spec =
     returns
     kind-at-requires
     lender-at-requires
-    find-lender-requires
+    lender-requires
     returns-2
     returns-3)
