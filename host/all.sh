@@ -9,6 +9,7 @@ export DESK_LIB
 cargo test --quiet --release -p reference -p generate
 cargo build --quiet --release -p compare -p samples
 cargo run --quiet --release -p compare -- vectors vectors
+cargo run --quiet --release -p compare -- programs vectors "$(dirname "$program")"
 cargo run --quiet --release -p compare
 terminal/run.sh
 ./r.sh "$(dirname "$program")/samples"

@@ -30,7 +30,7 @@ same() {
     if cmp -s "$3" "$4"; then pass; else fail "$1" "$2"; fi
 }
 
-# Records. A net is in the arrays pre, post and action, in places and in marking; sets are numbers of 64 bits.
+# Records. A net is in the arrays pre, post, action and optional (0 or 1), in places and in marking; sets are numbers of 64 bits.
 
 # put SIZE NUMBER: adds a little-endian number to `bytes`.
 put() {
@@ -49,7 +49,8 @@ records() {
         put 8 "${pre[t]}"
         put 8 "${post[t]}"
         put 2 "${action[t]}"
-        put 6 0
+        put 1 "${optional[t]}"
+        put 5 0
     done
     printf "$bytes"
 }
@@ -90,7 +91,7 @@ net() {
     RANDOM=$1
     places=$2
     [ "$places" -eq 64 ] || all=$(((1 << places) - 1))
-    pre=() post=() action=()
+    pre=() post=() action=() optional=()
     for ((t = 0; t < $3; t++)); do
         some "$4"
         pre[t]=$((value & all))
@@ -102,14 +103,19 @@ net() {
         2,*) action[t]=$((RANDOM % 1000)) ;;
         3,*) action[t]=$((2 * RANDOM)) ;;
         esac
+        case $4 in
+        no) optional[t]=0 ;;
+        all) optional[t]=1 ;;
+        *) optional[t]=$((RANDOM % 2)) ;;
+        esac
     done
     random
     [ "$4" != all ] || value=-1
     marking=$((value & all))
 }
 
-# What the parser finds: a line for each place (id, marking), transition (id, name) and arc (id, source, target), by attributes and text
-# alone. It also writes the text anew, in two ways, with white space between the elements.
+# What the parser finds: a line for each place (id, marking), transition (id, name), optional transition (id) and arc (id, source, target), by
+# attributes and text alone. It also writes the text anew, in two ways, with white space between the elements.
 
 # python3_parse TEXT LINES SPACES TABS
 # The writer of xml.etree puts a space before "/>", which has to go.
@@ -144,8 +150,12 @@ with open(lines, "w") as out:
             print(kind, part.get("id"), part.get("source"), part.get("target"), file=out)
         else:
             inner = {"place": "initialMarking", "transition": "name"}[kind]
-            label = only(only(named(part, kind, "id"), inner), "text")
-            print(kind, part.get("id"), label.text, file=out)
+            label, *marks = named(part, kind, "id")
+            print(kind, part.get("id"), only(named(label, inner, ""), "text").text, file=out)
+            for mark in marks:
+                named(mark, "toolspecific", "tool version")
+                assert kind == "transition" and (mark.get("tool"), mark.get("version")) == ("desk", "1")
+                print("optional", part.get("id"), file=out)
 
 tree.register_namespace("", grammar + "pnml")
 for path, space, end in ((spaces, "  ", b"\n"), (tabs, "\t", b"\r\n")):
@@ -160,7 +170,7 @@ values() {
     local name path=
     for name in pnml net page ${2//\// }; do
         case $name in
-        @* | text\(\)) path+=/$name ;;
+        @* | .. | text\(\)) path+=/$name ;;
         *) path+="/*[local-name()='$name' and namespace-uri()='http://www.pnml.org/version-2009/grammar/pnml']" ;;
         esac
     done
@@ -174,6 +184,7 @@ xmllint_parse() {
     {
         paste -d ' ' <(values "$1" place/@id) <(values "$1" "place/initialMarking/text/text()") | sed 's/^/place /'
         paste -d ' ' <(values "$1" transition/@id) <(values "$1" "transition/name/text/text()") | sed 's/^/transition /'
+        values "$1" transition/toolspecific/../@id | sed 's/^/optional /'
         paste -d ' ' <(values "$1" arc/@id) <(values "$1" arc/@source) <(values "$1" arc/@target) | sed 's/^/arc /'
     } >"$2"
     xmllint --format "$1" | sed 1d >"$3"
@@ -183,14 +194,15 @@ xmllint_parse() {
 # rebuild LINES: the net that the lines tell of. An arc that is told twice is none.
 rebuild() {
     local kind id first second
-    pre=() post=() action=() places=0 marking=0
+    pre=() post=() action=() optional=() places=0 marking=0
     while read -r kind id first second; do
         case $kind,$first in
         place,*)
             places=$((places + 1))
             marking=$((marking | first << ${id#p}))
             ;;
-        transition,*) pre[${id#t}]=0 post[${id#t}]=0 action[${id#t}]=$first ;;
+        transition,*) pre[${id#t}]=0 post[${id#t}]=0 action[${id#t}]=$first optional[${id#t}]=0 ;;
+        optional,*) optional[${id#t}]=$((optional[${id#t}] + 1)) ;;
         arc,p*) pre[${second#t}]=$((pre[${second#t}] ^ 1 << ${first#p})) ;;
         arc,t*) post[${first#t}]=$((post[${first#t}] ^ 1 << ${second#p})) ;;
         esac
@@ -234,9 +246,17 @@ same "R" "the text is not docs/R.pnml" "$work/out" "$sample"
 run read "$sample" BACK
 line "R" "places 3 marking 3"
 same "R" "the records are not those of examples/r" "$case/BACK" "$r/NET"
-places=3 marking=3 pre=(1 2 4) post=(1 4 0) action=(1 2 3)
+places=3 marking=3 pre=(1 2 4) post=(1 4 0) action=(1 2 3) optional=(0 0 0)
 there_and_back "R"
 same "R" "the parsed text is not docs/R.pnml" "$case/text" "$sample"
+
+# R where t1 is optional, as its text must be.
+mark='<toolspecific tool="desk" version="1"/>'
+sed "s|2</text></name>|&$mark|" "$sample" >"$work/optional"
+places=3 marking=3 pre=(1 2 4) post=(1 4 0) action=(1 2 3) optional=(0 1 0)
+there_and_back "R, t1 optional"
+same "R, t1 optional" "the text is another" "$case/text" "$work/optional"
+if [ "$(wc -c <"$case/text")" -eq 778 ]; then pass; else fail "R, t1 optional" "its text has another length"; fi
 
 # Other nets, the largest last.
 seed=0
@@ -246,7 +266,7 @@ for sizes in "1 1 no" "1 1 all" "1 64 many" "64 1 many" "2 3 few" "9 10 many" "1
     net "$seed" $sizes
     there_and_back "net $seed of $sizes"
 done
-if [ "$(wc -c <"$case/text")" -eq 357429 ]; then pass; else fail "the largest net" "its text has another length"; fi
+if [ "$(wc -c <"$case/text")" -eq 359925 ]; then pass; else fail "the largest net" "its text has another length"; fi
 
 # start: R's files in a fresh folder, and none that a reading makes.
 start() {
@@ -309,10 +329,17 @@ done
 start
 ask 3 2 2 0 >"$case/ASK"
 written "two places" "refused 3 at 1"
-for spare in 18 19 20 21 22 23; do
+for spare in 19 20 21 22 23; do
     start
     poke NET $((48 + spare)) 001
     written "byte $spare of transition 2" "refused 3 at 2"
+    poke NET 66 001
+    written "byte $spare of transition 2, optional" "refused 3 at 2"
+done
+for mark_byte in 002 003 200 377; do
+    start
+    poke NET 42 "$mark_byte"
+    written "a mark of $mark_byte (octal) in transition 1" "refused 3 at 1"
 done
 start
 ask 8 2 3 0 >"$case/ASK"
@@ -387,6 +414,27 @@ sed 's/<text>3</<text>03</' "$sample" >"$case/FILE"
 refused "a leading zero" "refused 13 at 502"
 sed 's/source="p2"/source="p3"/' "$sample" >"$case/FILE"
 refused "a place that is not there" "refused 13 at 703"
+
+# The mark of an optional transition where it may not stand, and what is nearly that mark. In R's text t1 begins at byte 409, its name element
+# at 429 and ends before 456.
+# unmarked NAME OLD NEW OFFSET: R's text with t1's OLD, a part of what stands from its id to the end of the transition, replaced.
+unmarked() {
+    sed "s|\(id=\"t1\".*\)$2\(.*<transition id=\"t2\"\)|\1$3\2|" "$sample" >"$case/FILE"
+    if cmp -s "$case/FILE" "$sample"; then fail "read: $1" "the text is not changed"; fi
+    refused "$1" "refused 13 at $4"
+}
+start
+unmarked "the mark before the name" "<name>" "$mark<name>" 430
+unmarked "the mark in the name" "</name>" "$mark</name>" 450
+unmarked "the mark twice" "</name>" "</name>$mark$mark" 496
+unmarked "the mark after the transition" "</transition>" "</transition>$mark" 471
+unmarked "version 2" "</name>" "</name>${mark/1/2}" 491
+unmarked "version 10" "</name>" "</name>${mark/1/10}" 492
+unmarked "two spaces in the mark" "</name>" "</name>${mark/ tool/  tool}" 470
+unmarked "a space before the mark's end" "</name>" "</name>${mark/\/>/ />}" 493
+unmarked "a mark with an end tag" "</name>" "</name>${mark/\/>/></toolspecific>}" 493
+unmarked "the mark's attributes exchanged" "</name>" "</name><toolspecific version=\"1\" tool=\"desk\"/>" 470
+unmarked "another tool" "</name>" "</name>${mark/desk/disk}" 477
 
 # text PLACES TRANSITIONS: a text without arcs.
 text() {

@@ -137,6 +137,11 @@ start r-holds
 printf '\001' | dd of="$case/NET" bs=1 seek=47 conv=notrunc 2>/dev/null
 in_folder "a spare byte of transition 1" "refused 3 at 1"
 start r-holds
+printf '\001' | dd of="$case/NET" bs=1 seek=42 conv=notrunc 2>/dev/null
+in_folder "transition 1 optional" "broken 26 at 2"
+printf '\002' | dd of="$case/NET" bs=1 seek=42 conv=notrunc 2>/dev/null
+in_folder "a mark of 2 in transition 1" "refused 3 at 1"
+start r-holds
 printf '\006' | dd of="$case/FORMULA" bs=1 seek=16 conv=notrunc 2>/dev/null
 in_folder "operator 6 in formula 2" "refused 5 at 2"
 start r-holds

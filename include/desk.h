@@ -35,7 +35,7 @@ enum {
     DESK_FORMULAS_MAX = 256,
     DESK_NODES_MAX = 65536,
     DESK_CATEGORIES_MAX = 2000,
-    DESK_PNML_MAX = 357429 /* the longest text that desk_pnml_write writes */
+    DESK_PNML_MAX = 359925 /* the longest text that desk_pnml_write writes */
 };
 
 /* The numbers of documents 01 and 02. */
@@ -43,7 +43,7 @@ enum {
     DESK_GRANTED = 0,            /* accepted, fired, no record at fault */
     DESK_BAD_ASK = 1,            /* ask not 12 bytes, places or side out of range */
     DESK_BAD_NET_SIZE = 2,       /* not 1 to 64 transition records */
-    DESK_BAD_TRANSITION = 3,     /* a set beyond the places, a spare byte not zero */
+    DESK_BAD_TRANSITION = 3,     /* a set beyond the places, a mark above 1, a spare byte not zero */
     DESK_BAD_FORMULAS_SIZE = 4,  /* not 1 to 256 formula records */
     DESK_BAD_FORMULA = 5,        /* operator, spare field or operand */
     DESK_BAD_TREE_SIZE = 6,      /* not 1 to 65,536 node records */

@@ -40,6 +40,9 @@ static void put_transition(uint8_t *record, uint64_t pre, uint64_t post, uint64_
     put(record + 16, 2, action);
 }
 
+/* Byte 18 of a transition record: 0 pressed, 1 optional. */
+enum { MARK = 18 };
+
 static void put_formula(uint8_t *record, uint8_t operation, uint64_t left, uint64_t right,
                         uint64_t action)
 {
@@ -295,6 +298,54 @@ static void samples(void)
     check("two children of three", holds, net, formulas, no_child, DESK_FAULT_COUNT, 0);
 }
 
+/* Net R where a transition is optional. */
+static table net_r_optional(size_t transition)
+{
+    table t = net_r(3);
+    t.bytes[transition * DESK_TRANSITION_BYTES + MARK] = 1;
+    return t;
+}
+
+static void optional_transitions(void)
+{
+    table formulas = formulas_r(), good = holds_tree();
+    table holds = ask_r(3, 2, 3, DESK_HOLDS), fails = ask_r(3, 2, 3, DESK_FAILS);
+    table t0 = net_r_optional(0), t1 = net_r_optional(1), t2 = net_r_optional(2);
+    table none = changed(t1, MARK, 1), keeps_t0 = loop_tree(3, 1, 0);
+    /* 7 and 31 keep t0 alone where t1 is optional; 6 and 31 need t0 or t1 pressed. */
+    check("R holds, t2 optional", holds, t2, formulas, good, DESK_GRANTED, 23);
+    check("R holds, t1 optional", holds, t1, formulas, good, DESK_FAULT_CHILD, 2);
+    check("R holds, t0 optional", holds, t0, formulas, good, DESK_FAULT_CHILD, 2);
+    check("R holds, both optional", holds, none, formulas, good, DESK_FAULT_CONDITION, 0);
+    check("R fails, t1 optional", fails, t1, formulas, keeps_t0, DESK_GRANTED, 4);
+    check("R fails, t0 optional", fails, t0, formulas, keeps_t0, DESK_FAULT_CHILD, 0);
+    check("R fails, both optional", fails, none, formulas, keeps_t0, DESK_FAULT_CONDITION, 0);
+    fire("t1 optional, t1", 3, 3, t1, 1, DESK_GRANTED, 0, 5);
+    fire("t1 optional, t2", 3, 3, t1, 2, DESK_NOT_ENABLED, 0, 0);
+
+    /* Rule 29 where t0 is optional and alone: then 24 and a leaf. */
+    const node ends[2] = {
+        {1, 0, 0, 0, 1, 2, 1, 29, DESK_FAILS, 0, 0, 0},
+        {1, 0, 0, 0, 0, 1, 0, 24, DESK_FAILS, 0, 0, 0},
+    };
+    table at_1 = ask_r(1, 2, 1, DESK_FAILS), end = tree_of(ends, 2), one = net_r(1);
+    check("t0 alone and optional", at_1, changed(one, MARK, 1), formulas, end, DESK_GRANTED, 2);
+    check("t0 alone and pressed", at_1, one, formulas, end, DESK_FAULT_CONDITION, 0);
+
+    /* The mark and the spare bytes of record 1. */
+    for (size_t at = MARK; at < DESK_TRANSITION_BYTES; at++) {
+        for (unsigned value = 1; value <= 255; value += at == MARK ? 1 : 127) {
+            table other = changed(t2, DESK_TRANSITION_BYTES + at, (uint8_t)value);
+            int good_mark = at == MARK && value == 1;
+            fire("a mark or spare byte", 3, 3, other, 1,
+                 good_mark ? DESK_GRANTED : DESK_BAD_TRANSITION, good_mark ? 0 : 1,
+                 good_mark ? 5 : 0);
+        }
+    }
+    check("a mark of 2", holds, changed(t1, MARK, 2), formulas, good, DESK_BAD_TRANSITION, 0);
+    check("the last byte", holds, changed(t1, 71, 1), formulas, good, DESK_BAD_TRANSITION, 2);
+}
+
 static void check_refusals(void)
 {
     table net = net_r(3), formulas = formulas_r(), tree = holds_tree();
@@ -444,17 +495,25 @@ static const char HEAD[] =
     "<net id=\"n\" type=\"http://www.pnml.org/version-2009/grammar/ptnet\"><page id=\"g\">";
 static const char TAIL[] = "</page></net></pnml>";
 
-/* Net R at marking 3, after HEAD and before TAIL. */
-static const char R_INSIDE[] =
-    "<place id=\"p0\"><initialMarking><text>1</text></initialMarking></place>"
-    "<place id=\"p1\"><initialMarking><text>1</text></initialMarking></place>"
-    "<place id=\"p2\"><initialMarking><text>0</text></initialMarking></place>"
-    "<transition id=\"t0\"><name><text>1</text></name></transition>"
-    "<transition id=\"t1\"><name><text>2</text></name></transition>"
-    "<transition id=\"t2\"><name><text>3</text></name></transition>"
-    "<arc id=\"a0\" source=\"p0\" target=\"t0\"/><arc id=\"a1\" source=\"t0\" target=\"p0\"/>"
-    "<arc id=\"a2\" source=\"p1\" target=\"t1\"/><arc id=\"a3\" source=\"t1\" target=\"p2\"/>"
-    "<arc id=\"a4\" source=\"p2\" target=\"t2\"/>";
+/* Follows the name of an optional transition. */
+#define OPTIONAL "<toolspecific tool=\"desk\" version=\"1\"/>"
+
+/* Net R at marking 3, after HEAD and before TAIL: to the end of t1's name, and
+ * from there on. */
+#define R_TO_NAME \
+    "<place id=\"p0\"><initialMarking><text>1</text></initialMarking></place>" \
+    "<place id=\"p1\"><initialMarking><text>1</text></initialMarking></place>" \
+    "<place id=\"p2\"><initialMarking><text>0</text></initialMarking></place>" \
+    "<transition id=\"t0\"><name><text>1</text></name></transition>" \
+    "<transition id=\"t1\"><name><text>2</text></name>"
+#define R_FROM_NAME \
+    "</transition>" \
+    "<transition id=\"t2\"><name><text>3</text></name></transition>" \
+    "<arc id=\"a0\" source=\"p0\" target=\"t0\"/><arc id=\"a1\" source=\"t0\" target=\"p0\"/>" \
+    "<arc id=\"a2\" source=\"p1\" target=\"t1\"/><arc id=\"a3\" source=\"t1\" target=\"p2\"/>" \
+    "<arc id=\"a4\" source=\"p2\" target=\"t2\"/>"
+static const char R_INSIDE[] = R_TO_NAME R_FROM_NAME;
+static const char R_OPTIONAL[] = R_TO_NAME OPTIONAL R_FROM_NAME;
 
 /* A text that grows, of at most DESK_PNML_MAX bytes. */
 static char growing[DESK_PNML_MAX + 1];
@@ -487,13 +546,21 @@ static void add_place(size_t place, uint64_t mark)
     add("</text></initialMarking></place>");
 }
 
-static void add_transition(size_t transition, uint64_t action)
+/* `mark` is OPTIONAL or nothing. */
+static void add_marked(size_t transition, uint64_t action, const char *mark)
 {
     add("<transition id=\"t");
     add_number(transition);
     add("\"><name><text>");
     add_number(action);
-    add("</text></name></transition>");
+    add("</text></name>");
+    add(mark);
+    add("</transition>");
+}
+
+static void add_transition(size_t transition, uint64_t action)
+{
+    add_marked(transition, action, "");
 }
 
 static void add_arc(size_t arc, const char *source, size_t from, const char *target, size_t to)
@@ -524,13 +591,15 @@ static table text_of(const char *first, const char *second, const char *third)
     return text();
 }
 
-/* A net of so many places and transitions, every arc, every place marked. */
+/* A net of so many places and transitions, all optional, every arc, every place
+ * marked. */
 static table full_net(size_t places, size_t transitions, uint64_t action)
 {
     table t = empty_table(transitions * DESK_TRANSITION_BYTES);
     uint64_t all = UINT64_MAX >> (64 - places);
     for (size_t i = 0; i < transitions; i++) {
         put_transition(t.bytes + i * DESK_TRANSITION_BYTES, all, all, action);
+        t.bytes[i * DESK_TRANSITION_BYTES + MARK] = 1;
     }
     return t;
 }
@@ -543,7 +612,7 @@ static table full_text(size_t places, size_t transitions, uint64_t action)
         add_place(p, 1);
     }
     for (size_t t = 0; t < transitions; t++) {
-        add_transition(t, action);
+        add_marked(t, action, OPTIONAL);
     }
     for (size_t t = 0; t < transitions; t++) {
         for (size_t p = 0; p < places; p++) {
@@ -667,7 +736,8 @@ static void pnml_written(void)
         pnml_write("places 259", 259, 3, r, room, DESK_BAD_ASK, 0, NOTHING);
         pnml_write("no net", 3, 8, NOTHING, room, DESK_BAD_NET_SIZE, 0, NOTHING);
         pnml_write("two places", 2, 8, r, room, DESK_BAD_TRANSITION, 1, NOTHING);
-        pnml_write("spare byte", 3, 8, changed(r, 66, 1), room, DESK_BAD_TRANSITION, 2, NOTHING);
+        pnml_write("a mark of 2", 3, 8, changed(r, 66, 2), room, DESK_BAD_TRANSITION, 2, NOTHING);
+        pnml_write("spare byte", 3, 8, changed(r, 67, 1), room, DESK_BAD_TRANSITION, 2, NOTHING);
         pnml_write("marking beyond", 3, 8, r, room, DESK_BAD_MARKING, 0, NOTHING);
         pnml_write("bit 63 of 63", 63, top, r, room, DESK_BAD_MARKING, 0, NOTHING);
     }
@@ -742,12 +812,30 @@ static void pnml_reread(void)
     pnml_read("no text and no room", NOTHING, 0, DESK_BAD_PNML, 0, 0, 0, NOTHING);
 }
 
+/* R where t1 is optional. */
+static void pnml_optional(void)
+{
+    table r = net_r_optional(1), r_text = text_of(HEAD, R_OPTIONAL, TAIL);
+    size_t len = r_text.len;
+    expect("R, t1 optional", "length", 739 + 39, len);
+    pnml_write("R, t1 optional", 3, 3, r, len, DESK_GRANTED, 0, r_text);
+    pnml_write("R, t1 optional, short", 3, 3, r, len - 1, DESK_SHORT_ROOM, 0, NOTHING);
+    pnml_read("R, t1 optional", r_text, r.len, DESK_GRANTED, 0, 3, 3, r);
+    pnml_read("R, t1 optional, white space", spaced(r_text), r.len, DESK_GRANTED, 0, 3, 3, r);
+}
+
+static void cut_short(table whole)
+{
+    for (size_t len = 0; len < whole.len; len++) {
+        unreadable("cut short", resized(whole, len), DESK_BAD_PNML, len);
+    }
+    give_back();
+}
+
 static void pnml_cut_short(void)
 {
-    table r_text = text_of(HEAD, R_INSIDE, TAIL);
-    for (size_t len = 0; len < r_text.len; len++) {
-        unreadable("cut short", resized(r_text, len), DESK_BAD_PNML, len);
-    }
+    cut_short(text_of(HEAD, R_INSIDE, TAIL));
+    cut_short(text_of(HEAD, R_OPTIONAL, TAIL));
 }
 
 /* A text of HEAD, places, transitions, `before` and `after`, which is hopeless
@@ -762,6 +850,7 @@ typedef struct {
     "<arc id=\"a" #number "\" source=\"" #source "\" target=\"" #target "\"/>"
 #define PLACE "<place id=\"p0\"><initialMarking><text>"
 #define TRANSITION "<transition id=\"t0\"><name><text>"
+#define NAMED TRANSITION "7</text></name>"
 
 static void pnml_damaged(void)
 {
@@ -789,6 +878,15 @@ static void pnml_damaged(void)
         {1, 0, "", TRANSITION "655350<", 37},
         {1, 0, "", TRANSITION "00<", 33},
         {1, 0, "", TRANSITION "<", 32},
+        {1, 0, "", "<transition id=\"t0\">" OPTIONAL "<name>", 21},
+        {1, 0, "", TRANSITION "7</text>" OPTIONAL "</name>", 41},
+        {1, 0, "", NAMED "<toolspecific  tool=", 61},
+        {1, 0, "", NAMED "<toolspecific tool=\"desk\" version=\"2\"/>", 82},
+        {1, 0, "", NAMED "<toolspecific tool=\"desk\" version=\"1\" />", 84},
+        {1, 0, "", NAMED OPTIONAL OPTIONAL, 87},
+        {1, 0, "", NAMED OPTIONAL "\n<name>", 88},
+        {1, 0, "", NAMED "</transition>" OPTIONAL, 62},
+        {1, 0, "", NAMED OPTIONAL "</transition>", 99},
         {0, 0, "", "<arc", 1},
         {1, 0, "", "<arc", 1},
         {0, 1, "", "<arc", 1},
@@ -865,6 +963,8 @@ int main(int argc, char **argv)
     }
     samples();
     give_back();
+    optional_transitions();
+    give_back();
     check_refusals();
     give_back();
     sizes_at_the_limit();
@@ -878,6 +978,8 @@ int main(int argc, char **argv)
     pnml_written();
     give_back();
     pnml_reread();
+    give_back();
+    pnml_optional();
     give_back();
     pnml_cut_short();
     give_back();

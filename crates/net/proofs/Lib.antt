@@ -3,3 +3,4 @@ pub mod Loops
 pub mod Answers
 pub mod Independence
 pub mod Runs
+pub mod Urgent

@@ -12,7 +12,7 @@ use pnml_line::Trouble;
 use pnml_read::ReadResult;
 use pnml_write::Written;
 
-// Room for the longest text: 64 places, 64 transitions with actions of five digits and all 8,192 arcs are 357,429 bytes.
+// Room for the longest text: 64 places, 64 optional transitions with actions of five digits and all 8,192 arcs are 359,925 bytes.
 fn text_room() -> [u8; 400000]
     ensures zeros { λ r. ⌜ r ≡ replicate 400000 0 ⌝ }
     ensures size { λ r. ⌜ 400000 ≡ length r ⌝ }

@@ -9,12 +9,12 @@ use lib.ListN.{length, length-append}
 use Rattle.texts.specs.Text.{bytes, decimal}
 use Rattle.texts.proofs.Digits.{decimal-one, decimal-more}
 use Rattle.pnml_shape.specs.Drawing.{Arc, arcs, joined, placePieces, transitionPieces, arcPiece, openings}
-use Rattle.pnml_net.specs.Nets.{markOf}
+use Rattle.pnml_net.specs.Nets.{markOf, entryBy}
 use Rattle.bitset.specs.Sets.{member}
-use Rattle.pnml_put.specs.Put.{arcOf, arcWhere, arcsFrom, bodyText, placesText, transitionsText, arcsText, netText}
-use Rattle.net.specs.Table.{actionAt, tableSized, transitions}
-use Rattle.pnml_put.proofs.Pieces.{place-text, transition-text, post-text, pre-text}
-use Rattle.pnml_put.proofs.Fits.{long, longer}
+use Rattle.pnml_put.specs.Put.{arcOf, arcWhere, arcsFrom, bodyText, placesText, transitionsText, entryAt, arcsText, netText}
+use Rattle.net.specs.Table.{tableSized, transitions}
+use Rattle.pnml_put.proofs.Pieces.{place-text, pressed-text, optional-text, pressed-entry, optional-entry, post-text, pre-text}
+use Rattle.pnml_put.proofs.Fits.{long, longer, named-long}
 use Rattle.pnml_put.proofs.Arcs.{arcs-text, arcs-append}
 use Rattle.pnml_put.proofs.Texts.{net-text}
 use Rattle.pnml_length.specs.Count.{Count, CountArcs}
@@ -59,15 +59,35 @@ place-length i m p d e =
     mark true = length-one 1 (omega arith)
     mark false = length-one 0 (omega arith)
 
-pub transition-length : (i a d f : ℕ) → d ≡ length (decimal i) → f ≡ length (decimal a) → 58 + d + f ≡ length (joined (transitionPieces i a))
-transition-length i a d f e g =
-    omega (
-      arith,
-      e,
-      g,
-      ap length (transition-text i a),
-      long (bytes "<transition id=\"t") (decimal i) (bytes "\"><name><text>") (decimal a) (bytes "</text></name></transition>"),
-    )
+-- a transition, whose number and action have at most 5 digits each
+module _ {d f : ℕ} {b : Bool} (i a : ℕ) (p : (d ≡ length (decimal i)) × (d ≤ 5)) (q : (f ≡ length (decimal a)) × (f ≤ 5)) where
+  pub pressed-length : a < 65536 → b ≡ false → Count 107 (joined (transitionPieces i (entryBy a b))) (58 + d + f)
+  pressed-length h e =
+      record {
+        exact =
+            omega (
+              arith,
+              p .0,
+              q .0,
+              named-long i a (bytes "</text></name></transition>"),
+              ap length (pressed-text i a ∙ pressed-entry i a h e),
+            );
+        bound = omega (arith, p .1, q .1);
+      }
+
+  pub optional-length : b ≡ true → Count 107 (joined (transitionPieces i (entryBy a b))) (58 + d + f + 39)
+  optional-length e =
+      record {
+        exact =
+            omega (
+              arith,
+              p .0,
+              q .0,
+              named-long i a (bytes "</text></name><toolspecific tool=\"desk\" version=\"1\"/></transition>"),
+              ap length (optional-text i a ∙ optional-entry i a e),
+            );
+        bound = omega (arith, p .1, q .1);
+      }
 
 arc-length : (i t p : ℕ) (post : Bool) → 35 + length (decimal i) + length (decimal t) + length (decimal p) ≡ length (arcPiece i (arcOf t post p))
 arc-length i t p true =
@@ -162,7 +182,7 @@ unfolding openings joined
 opening-length = refl
 
 pub whole-length : (b : List ℕ) (n m x y z : ℕ) → tableSized b ≡ true → x ≡ length (placesText (markOf m) n)
-    → y ≡ length (transitionsText (actionAt b) (transitions b)) → z ≡ length (arcsText b n (transitions b))
+    → y ≡ length (transitionsText (entryAt b) (transitions b)) → z ≡ length (arcsText b n (transitions b))
     → 159 + x + y + z ≡ length (netText b n m)
 whole-length b n m x y z s e f g =
     omega (
@@ -173,7 +193,7 @@ whole-length b n m x y z s e f g =
       opening-length,
       ap length (net-text b s n m),
       length-append (bodyText b n m (transitions b)) (bytes "</page></net></pnml>"),
-      long (joined openings) (placesText (markOf m) n) (transitionsText (actionAt b) (transitions b)) (arcsText b n (transitions b)) [],
-      ap (λ (t : List ℕ). length (joined openings ++ (placesText (markOf m) n ++ (transitionsText (actionAt b) (transitions b) ++ t))))
+      long (joined openings) (placesText (markOf m) n) (transitionsText (entryAt b) (transitions b)) (arcsText b n (transitions b)) [],
+      ap (λ (t : List ℕ). length (joined openings ++ (placesText (markOf m) n ++ (transitionsText (entryAt b) (transitions b) ++ t))))
           (append-nil (arcsText b n (transitions b))),
     )

@@ -5,6 +5,7 @@ ghost use Prim.Native.Nat.{_+_, _*_, _≤_, _<_};
 ghost use lib.ListN.{length};
 ghost use Rattle.texts.specs.Text as texts;
 ghost use Rattle.net.specs.Table as table;
+ghost use Rattle.pnml_shape.specs.Drawing as drawing;
 ghost use Rattle.pnml_net.specs.Nets as nets;
 ghost use Rattle.pnml_put.specs.Put as puts;
 ghost use Rattle.pnml_length.specs.Count as counts;
@@ -49,16 +50,29 @@ fn places_length(count: u32, marking: u64) -> usize
     length
 }
 
+// The length of a transition, optional or pressed.
+fn transition_length(i: usize, action: u16, optional: bool) -> usize
+    requires { ⌜ i < 100 ⌝ }
+    ensures { λ r. ⌜ counts.Count 107 (drawing.joined (drawing.transitionPieces i (nets.entryBy action optional))) r ⌝ }
+{
+    let length = 58 + digits(i) + digits(action as usize);
+    if optional {
+        return length + 39;
+    }
+    length
+}
+
 // The length of the transitions of a table.
 fn transitions_length(count: usize, net: &[u8]) -> usize
     requires { ⌜ (count ≤ 64) × (count * table.transitionSize ≤ length (now net)) ⌝ }
-    ensures { λ r. ⌜ counts.Count (68 * count) (puts.transitionsText (table.actionAt (now (net .entry))) count) r ⌝ }
+    ensures { λ r. ⌜ counts.Count (107 * count) (puts.transitionsText (puts.entryAt (now (net .entry))) count) r ⌝ }
 {
     let mut length = 0;
     let mut t = 0;
     while t < count {
-        let action = tables::u16_at(net, t * net::RECORD + 16);
-        length += 58 + digits(t) + digits(action as usize);
+        let from = t * net::RECORD;
+        let action = tables::u16_at(net, from + 16);
+        length += transition_length(t, action, net[from + 18] == 1);
         t += 1;
     }
     length

@@ -1,37 +1,39 @@
--- Records that arcs and actions give: loading finds no fault in them, and their net has these arcs and actions. Assumes nothing.
+-- Records that arcs and entries give: loading finds no fault in them, and their net has these arcs and entries. Assumes nothing.
 use mathlib.Core.Path.{_≡_, refl, sym, ap, _∙_, subst}
 use mathlib.Core.Bool.{Bool, true, false, cond, not, _&&_}
 use mathlib.Core.List.{List}
 use mathlib.Core.Logic.{_⊎_, inl, inr}
-use Prim.Native.Nat.{ℕ, _*_, _/_, _%_, _^_, _≤_, _<_}
+use Prim.Native.Nat.{ℕ, _+_, _*_, _/_, _%_, _^_, _≤_, _<_}
 use native.Mathlib.Nat.{lt-of-lt-of-le, le-refl}
 use native.Mathlib.Omega.{arith}
 use lib.ListN.{length}
 use lib.Pow.{pow-mono}
 use lib.Dec.{eqb, leb}
 use borrow.Author.Tests.{ltb-true, le-leb, eq-eqb}
+use Rattle.tables.specs.Bytes.{field}
 use Rattle.tables.specs.Sizes.{sized}
 use Rattle.tables.specs.Faults.{noFault}
 use Rattle.tables.specs.Lists.{first}
 use Rattle.tables.proofs.Tests.{and-intro}
 use Rattle.tables.proofs.Below.{lt-or-ge}
 use Rattle.tables.proofs.Counts.{sized-whole}
-use Rattle.tables.proofs.Entries.{first-none, getD-upTo}
+use Rattle.tables.proofs.Entries.{first-none}
 use Rattle.tables.proofs.Scans.{scan-good}
 use Rattle.bitset.specs.Sets.{within}
 use Rattle.net.specs.declared.Net.{Net}
-use Rattle.net.specs.Step.{preOf, postOf, actionOf}
-use Rattle.net.specs.Table.{preAt, postAt, actionAt, spareAt, transitions, netOf, placesGood, tableSized, recordBad}
+use Rattle.net.specs.Step.{preOf, postOf}
+use Rattle.net.specs.Table.{preAt, postAt, markAt, spareAt, transitions, netOf, placesGood, tableSized, recordBad}
 use Rattle.net.specs.Answer.{checked, tableFault, loadFault}
 use Rattle.net.proofs.Answers.{load-good, decoded-pre, decoded-post}
 use Rattle.pnml_shape.specs.Drawing.{Arc, arcsGood}
-use Rattle.pnml_net.specs.Nets.{countdown, netArcs, setOf, recordsOf}
+use Rattle.pnml_net.specs.Nets.{countdown, netArcs, entryOf, setOf, recordsOf}
 use Rattle.pnml_net.proofs.Marks.{countdown-length}
 use Rattle.pnml_net.proofs.Sets.{before, set-back}
 use Rattle.pnml_net.proofs.Good.{net-good}
 use Rattle.pnml_net.proofs.Order.{sets-within, sets-none, same-sets}
 use Rattle.pnml_net.proofs.Lists.{countdown-ext}
-use Rattle.pnml_net.proofs.Fields.{records-length, read-pre, read-post, read-action, read-spare}
+use Rattle.pnml_net.proofs.Entries.{entry-field, mark-low, entry-decoded}
+use Rattle.pnml_net.proofs.Fields.{records-length, records-bytes, read-pre, read-post, read-entry, read-spare}
 
 -- ---- a net whose sets are those of good arcs has these arcs
 
@@ -50,10 +52,10 @@ eight-bytes : (places s : ℕ) → places ≤ 64 → within places s ≡ true �
 unfolding within
 eight-bytes places s l h = lt-of-lt-of-le (ltb-true s (2 ^ places) h) (pow-mono l)
 
--- good arcs, actions of two bytes, 1 to 64 places and 1 to 64 transitions
+-- good arcs, entries of an action with 65,536 added or not, 1 to 64 places and 1 to 64 transitions
 pub record Fits (places : ℕ) (arcs : List Arc) (act : ℕ → ℕ) (n : ℕ) : Type 0 where
   pub fine : arcsGood places n arcs ≡ true
-  pub low : (t : ℕ) → act t ≤ 65535
+  pub low : (t : ℕ) → act t ≤ 131071
   pub places-least : 1 ≤ places
   pub places-most : places ≤ 64
   pub least : 1 ≤ n
@@ -87,9 +89,13 @@ module _ (places : ℕ) (arcs : List Arc) (act : ℕ → ℕ) (n : ℕ) (fits : 
   unfolding table
   post-is t h = read-post arcs act n t h (set-low t true)
 
-  action-is : (t : ℕ) → t < n → actionAt table t ≡ act t
+  entry-is : (t : ℕ) → t < n → field 3 (t * 24 + 16) table ≡ act t
   unfolding table
-  action-is t h = read-action arcs act n t h (let l : act t ≤ 65535 = fits .low t in omega arith)
+  entry-is t h = read-entry arcs act n t h (let l : act t ≤ 131071 = fits .low t in omega arith)
+
+  mark-is : (t : ℕ) → t < n → markAt table t ≤ 1
+  unfolding table
+  mark-is t h = mark-low table (records-bytes arcs (countdown act n)) t (omega (arith, entry-is t h, fits .low t))
 
   spare-is : (t : ℕ) → t < n → spareAt table t ≡ 0
   unfolding table
@@ -113,11 +119,14 @@ module _ (places : ℕ) (arcs : List Arc) (act : ℕ → ℕ) (n : ℕ) (fits : 
   none-bad t h =
       let a = within places (preAt table t) in
       let b = within places (postAt table t) in
-      let c = eqb (spareAt table t) 0 in
+      let c = leb (markAt table t) 1 in
+      let d = eqb (spareAt table t) 0 in
       ap not
+      (and-intro (a && b && c) d
       (and-intro (a && b) c
       (and-intro a b (ap (within places) (pre-is t h) ∙ within-places t false)
       (ap (within places) (post-is t h) ∙ within-places t true))
+      (le-leb (markAt table t) 1 (mark-is t h)))
       (eq-eqb (spareAt table t) 0 (spare-is t h)))
 
   table-good : noFault ≡ tableFault places table
@@ -146,11 +155,11 @@ module _ (places : ℕ) (arcs : List Arc) (act : ℕ → ℕ) (n : ℕ) (fits : 
   net-sets t h true = decoded-post places table is-sized t (subst (λ (x : ℕ). t < x) (sym count) h) ∙ post-is t h
   net-sets t h false = decoded-pre places table is-sized t (subst (λ (x : ℕ). t < x) (sym count) h) ∙ pre-is t h
 
-  net-action : (t : ℕ) → t < n → actionOf net t ≡ act t
-  unfolding net netOf
-  net-action t h =
+  net-entry : (t : ℕ) → t < n → entryOf net t ≡ act t
+  unfolding net
+  net-entry t h =
       let e : transitions table ≡ n = count in
-      getD-upTo (actionAt table) (transitions table) 64 t (omega arith) (omega arith) ∙ action-is t h
+      entry-decoded places table (omega arith) t (omega arith) ∙ entry-field table t (mark-is t h) ∙ entry-is t h
 
   pub net-count : netOf places (recordsOf arcs (countdown act n)) .transitions ≡ n
   unfolding table netOf
@@ -160,6 +169,6 @@ module _ (places : ℕ) (arcs : List Arc) (act : ℕ → ℕ) (n : ℕ) (fits : 
   unfolding table net netOf
   net-arcs = arcs-again net n arcs (fits .fine) net-sets
 
-  pub net-actions : countdown (actionOf (netOf places (recordsOf arcs (countdown act n)))) n ≡ countdown act n
+  pub net-entries : countdown (entryOf (netOf places (recordsOf arcs (countdown act n)))) n ≡ countdown act n
   unfolding table net
-  net-actions = countdown-ext (actionOf net) act n net-action
+  net-entries = countdown-ext (entryOf net) act n net-entry

@@ -13,15 +13,15 @@ use borrow.Author.Tests.{eqb-true, eqb-false}
 use Rattle.tables.specs.Bytes.{little, field}
 use Rattle.tables.proofs.Numbers.{Bytes}
 use Rattle.tables.proofs.Tests.{passed}
-use Rattle.net.specs.Table.{preAt, postAt, actionAt, spareAt}
+use Rattle.net.specs.Table.{preAt, postAt, spareAt}
 use Rattle.pnml_shape.specs.Drawing.{Arc}
 use Rattle.pnml_net.specs.Nets.{countdown, setOf, lowBytes, recordBytes, recordsOf}
 use Rattle.pnml_net.proofs.Marks.{countdown-length}
 use Rattle.pnml_net.proofs.Numbers.{little-low, low-bytes, bytes-append}
 
-record-length : (pre post action : ℕ) → length (recordBytes pre post action) ≡ 24
+record-length : (pre post entry : ℕ) → length (recordBytes pre post entry) ≡ 24
 unfolding recordBytes lowBytes
-record-length pre post action = refl
+record-length pre post entry = refl
 
 -- each record has 24 bytes
 pub records-length : (arcs : List Arc) (actions : List ℕ) → length (recordsOf arcs actions) ≡ length actions * 24
@@ -34,12 +34,12 @@ records-length arcs (a ∷ l) =
     ∙ sym (suc-mul t 24)
 
 -- they are bytes
-record-bytes : (pre post action : ℕ) → Bytes (recordBytes pre post action)
+record-bytes : (pre post entry : ℕ) → Bytes (recordBytes pre post entry)
 unfolding recordBytes
-record-bytes pre post action =
-    bytes-append (lowBytes 8 pre) (lowBytes 8 post ++ (lowBytes 2 action ++ lowBytes 6 0)) (low-bytes 8 pre)
-    (bytes-append (lowBytes 8 post) (lowBytes 2 action ++ lowBytes 6 0) (low-bytes 8 post)
-    (bytes-append (lowBytes 2 action) (lowBytes 6 0) (low-bytes 2 action) (low-bytes 6 0)))
+record-bytes pre post entry =
+    bytes-append (lowBytes 8 pre) (lowBytes 8 post ++ (lowBytes 3 entry ++ lowBytes 5 0)) (low-bytes 8 pre)
+    (bytes-append (lowBytes 8 post) (lowBytes 3 entry ++ lowBytes 5 0) (low-bytes 8 post)
+    (bytes-append (lowBytes 3 entry) (lowBytes 5 0) (low-bytes 3 entry) (low-bytes 5 0)))
 
 pub records-bytes : (arcs : List Arc) (actions : List ℕ) → Bytes (recordsOf arcs actions)
 unfolding recordsOf lowBytes
@@ -116,10 +116,10 @@ module _ (arcs : List Arc) (act : ℕ → ℕ) where
     unfolding postAt upto recordAt recordBytes lowBytes
     read-post l = reads 8 8 ∙ little-low 8 (setOf arcs t true) (drop 16 (recordAt t ++ rest)) l
 
-    pub read-action : act t < 256 ^ 2 → actionAt (recordsOf arcs (countdown act n)) t ≡ act t
-    unfolding actionAt upto recordAt recordBytes lowBytes
-    read-action l = reads 2 16 ∙ little-low 2 (act t) (drop 18 (recordAt t ++ rest)) l
+    pub read-entry : act t < 256 ^ 3 → field 3 (t * 24 + 16) (recordsOf arcs (countdown act n)) ≡ act t
+    unfolding upto recordAt recordBytes lowBytes
+    read-entry l = reads 3 16 ∙ little-low 3 (act t) (drop 19 (recordAt t ++ rest)) l
 
     pub read-spare : spareAt (recordsOf arcs (countdown act n)) t ≡ 0
     unfolding spareAt upto recordAt recordBytes lowBytes
-    read-spare = reads 6 18 ∙ little-low 6 0 rest (omega arith)
+    read-spare = reads 5 19 ∙ little-low 5 0 rest (omega arith)

@@ -11,9 +11,9 @@ use borrow.Author.Tests.{lt-ltb, ltb-true, eq-eqb}
 use Rattle.tables.proofs.Tests.{and-intro, or-left, or-right}
 use Rattle.bitset.specs.Sets.{member}
 use Rattle.net.specs.declared.Net.{Net}
-use Rattle.net.specs.Step.{preOf, postOf, actionOf}
+use Rattle.net.specs.Step.{preOf, postOf}
 use Rattle.pnml_shape.specs.Drawing.{Arc, rank, lower, rises, arcsGood, atMost, good}
-use Rattle.pnml_net.specs.Nets.{countdown, markOf, arcsBy, netArcs, drawingOf}
+use Rattle.pnml_net.specs.Nets.{countdown, markOf, arcsBy, netArcs, entryOf, drawingOf}
 use Rattle.pnml_net.proofs.Marks.{countdown-length, countdown-most, mark-most}
 use Rattle.pnml_net.proofs.Members.{arc}
 
@@ -104,20 +104,20 @@ module _ (N : Net) where
       (net-good T t (omega arith)))
 
 -- whatever its sets: only arcs of the net's places are drawn
-pub drawing-good : (N : Net) (m : ℕ) → ((t : ℕ) → t < N .transitions → actionOf N t ≤ 65535) → good (drawingOf N m) ≡ true
+pub drawing-good : (N : Net) (m : ℕ) → ((t : ℕ) → t < N .transitions → entryOf N t ≤ 131071) → good (drawingOf N m) ≡ true
 unfolding good drawingOf
 drawing-good N m h =
-    and-intro (atMost 1 marks) (atMost 65535 actions && arcsGood (length marks) (length actions) arcs)
+    and-intro (atMost 1 marks) (atMost 131071 actions && arcsGood (length marks) (length actions) arcs)
     (countdown-most 1 (markOf m) (N .places) (λ k _. mark-most m k))
-    (and-intro (atMost 65535 actions) (arcsGood (length marks) (length actions) arcs) (countdown-most 65535 (actionOf N) (N .transitions) h)
-    (ap₂ (λ (P T : ℕ). arcsGood P T arcs) (countdown-length (markOf m) (N .places)) (countdown-length (actionOf N) (N .transitions))
+    (and-intro (atMost 131071 actions) (arcsGood (length marks) (length actions) arcs) (countdown-most 131071 (entryOf N) (N .transitions) h)
+    (ap₂ (λ (P T : ℕ). arcsGood P T arcs) (countdown-length (markOf m) (N .places)) (countdown-length (entryOf N) (N .transitions))
     ∙ net-good N (N .transitions) (N .transitions) (le-refl (N .transitions))))
   where
     marks : List ℕ
     marks = countdown (markOf m) (N .places)
 
     actions : List ℕ
-    actions = countdown (actionOf N) (N .transitions)
+    actions = countdown (entryOf N) (N .transitions)
 
     arcs : List Arc
     arcs = netArcs N (N .transitions)

@@ -5,6 +5,7 @@ pub mod Sets
 pub mod Good
 pub mod Loaded
 pub mod Numbers
+pub mod Entries
 pub mod Records
 pub mod Order
 pub mod Lists

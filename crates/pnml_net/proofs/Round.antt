@@ -7,19 +7,18 @@ use lib.ListN.{getD}
 use Rattle.tables.proofs.Numbers.{Bytes}
 use Rattle.tables.proofs.Tests.{and-left, and-right}
 use Rattle.net.specs.declared.Net.{Net}
-use Rattle.net.specs.Step.{actionOf}
 use Rattle.net.specs.Table.{transitions, netOf}
 use Rattle.net.specs.Answer.{loadFault}
 use Rattle.pnml_shape.specs.Drawing.{Drawing, atMost, arcsGood, good}
-use Rattle.pnml_net.specs.Nets.{countdown, markOf, netArcs, drawingOf, markingOf, recordsOf, numbered}
+use Rattle.pnml_net.specs.Nets.{countdown, markOf, netArcs, entryOf, drawingOf, markingOf, recordsOf, numbered}
 use Rattle.pnml_net.specs.Round.{RoundTrip, drawn, placesIn, transitionsIn, ReadTrip}
 use Rattle.pnml_net.proofs.Marks.{countdown-length, marking-back}
 use Rattle.pnml_net.proofs.Good.{drawing-good}
 use Rattle.pnml_net.proofs.Loaded.{Loaded, load-has}
-use Rattle.pnml_net.proofs.Records.{actions-most, records-loaded}
+use Rattle.pnml_net.proofs.Records.{entries-most, records-loaded}
 use Rattle.pnml_net.proofs.Lists.{numbered-all, numbered-most, marking-within, marks-again}
 use Rattle.pnml_net.proofs.Fields.{records-bytes}
-use Rattle.pnml_net.proofs.Again.{Fits, loads, net-count, net-arcs, net-actions}
+use Rattle.pnml_net.proofs.Again.{Fits, loads, net-count, net-arcs, net-entries}
 
 -- ---- a net with a marking in which loading finds no fault, and whose bytes are bytes
 
@@ -40,10 +39,10 @@ module _ (places m : ℕ) (bytes : List ℕ) (clear : loadFault places m bytes .
   unfolding drawingOf netOf
   round =
       record {
-        fine = drawing-good (netOf places bytes) m (actions-most places m bytes has are);
+        fine = drawing-good (netOf places bytes) m (entries-most places m bytes has are);
         places-back = countdown-length (markOf m) places;
         marking-back = marking-back places m (has .marking);
-        transitions-back = countdown-length (actionOf (netOf places bytes)) (transitions bytes);
+        transitions-back = countdown-length (entryOf (netOf places bytes)) (transitions bytes);
         least = has .least;
         most = has .most;
         records-back = records-back;
@@ -54,31 +53,31 @@ module _ (places m : ℕ) (bytes : List ℕ) (clear : loadFault places m bytes .
 module _ (d : Drawing) (fine : good d ≡ true) (places-least : 1 ≤ placesIn d) (places-most : placesIn d ≤ 64) (least : 1 ≤ transitionsIn d)
     (most : transitionsIn d ≤ 64) where
   -- the parts of a good drawing
-  rest-fine : (atMost 65535 (d .actions) && arcsGood (placesIn d) (transitionsIn d) (d .arcs)) ≡ true
+  rest-fine : (atMost 131071 (d .actions) && arcsGood (placesIn d) (transitionsIn d) (d .arcs)) ≡ true
   unfolding good
-  rest-fine = and-right (atMost 1 (d .marks)) (atMost 65535 (d .actions) && arcsGood (placesIn d) (transitionsIn d) (d .arcs)) fine
+  rest-fine = and-right (atMost 1 (d .marks)) (atMost 131071 (d .actions) && arcsGood (placesIn d) (transitionsIn d) (d .arcs)) fine
 
   marks-fine : atMost 1 (d .marks) ≡ true
   unfolding good
-  marks-fine = and-left (atMost 1 (d .marks)) (atMost 65535 (d .actions) && arcsGood (placesIn d) (transitionsIn d) (d .arcs)) fine
+  marks-fine = and-left (atMost 1 (d .marks)) (atMost 131071 (d .actions) && arcsGood (placesIn d) (transitionsIn d) (d .arcs)) fine
 
-  actions-fine : atMost 65535 (d .actions) ≡ true
-  actions-fine = and-left (atMost 65535 (d .actions)) (arcsGood (placesIn d) (transitionsIn d) (d .arcs)) rest-fine
+  actions-fine : atMost 131071 (d .actions) ≡ true
+  actions-fine = and-left (atMost 131071 (d .actions)) (arcsGood (placesIn d) (transitionsIn d) (d .arcs)) rest-fine
 
   arcs-fine : arcsGood (placesIn d) (transitionsIn d) (d .arcs) ≡ true
-  arcs-fine = and-right (atMost 65535 (d .actions)) (arcsGood (placesIn d) (transitionsIn d) (d .arcs)) rest-fine
+  arcs-fine = and-right (atMost 131071 (d .actions)) (arcsGood (placesIn d) (transitionsIn d) (d .arcs)) rest-fine
 
   act : ℕ → ℕ
   act = numbered (d .actions)
 
-  -- the actions as a countdown
+  -- the entries as a countdown
   listed : countdown act (transitionsIn d) ≡ d .actions
   unfolding act
   listed = numbered-all (d .actions)
 
-  act-low : (t : ℕ) → act t ≤ 65535
+  act-low : (t : ℕ) → act t ≤ 131071
   unfolding act
-  act-low = numbered-most 65535 (d .actions) actions-fine
+  act-low = numbered-most 131071 (d .actions) actions-fine
 
   fits : Fits (placesIn d) (d .arcs) act (transitionsIn d)
   fits =
@@ -98,12 +97,12 @@ module _ (d : Drawing) (fine : good d ≡ true) (places-least : 1 ≤ placesIn d
   unfolding net
   net-transitions = net-count (placesIn d) (d .arcs) act (transitionsIn d) fits
 
-  -- its actions, arcs and marks are those of the drawing
-  actions-again : countdown (actionOf net) (net .transitions) ≡ d .actions
+  -- its entries, arcs and marks are those of the drawing
+  actions-again : countdown (entryOf net) (net .transitions) ≡ d .actions
   unfolding net
   actions-again =
-      ap (countdown (actionOf net)) net-transitions
-      ∙ net-actions (placesIn d) (d .arcs) act (transitionsIn d) fits
+      ap (countdown (entryOf net)) net-transitions
+      ∙ net-entries (placesIn d) (d .arcs) act (transitionsIn d) fits
       ∙ listed
 
   arcs-again : netArcs net (net .transitions) ≡ d .arcs

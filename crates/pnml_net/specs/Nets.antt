@@ -1,5 +1,5 @@
--- The drawing of a net with a marking, and the places, marking and records of a drawing (document 02, F-1). Assumes nothing.
-use Prim.Native.Nat.{ℕ, zero, suc, _/_, _%_}
+-- The drawing of a net with a marking, and the places, marking and records of a drawing (document 02, F-1 and F-4). Assumes nothing.
+use Prim.Native.Nat.{ℕ, zero, suc, _+_, _/_, _%_}
 use mathlib.Core.Bool.{Bool, true, false, cond, not, _&&_}
 use mathlib.Core.List.{List, [], _∷_, _++_}
 use lib.ListN.{length}
@@ -34,11 +34,19 @@ unfoldable pub netArcs : Net → (n : ℕ) → List Arc
 netArcs N zero = []
 netArcs N (suc t) = arcsBy (postOf N t) t true (N .places) ++ (arcsBy (preOf N t) t false (N .places) ++ netArcs N t)
 
+-- an action, with 65,536 added where the transition is optional
+unfoldable pub entryBy : (action : ℕ) (optional : Bool) → ℕ
+entryBy a optional = a + cond optional 65536 0
+
+-- the entry of a net's transition
+unfoldable pub entryOf : Net → (transition : ℕ) → ℕ
+entryOf N t = entryBy (actionOf N t) (member (N .optional) t)
+
 unfoldable pub drawingOf : Net → (marking : ℕ) → Drawing
 drawingOf N m =
     record {
       marks = countdown (markOf m) (N .places);
-      actions = countdown (actionOf N) (N .transitions);
+      actions = countdown (entryOf N) (N .transitions);
       arcs = netArcs N (N .transitions);
     }
 
@@ -62,11 +70,11 @@ unfoldable pub lowBytes : (n : ℕ) → ℕ → List ℕ
 lowBytes zero x = []
 lowBytes (suc n) x = x % 256 ∷ lowBytes n (x / 256)
 
--- a transition's record
-unfoldable pub recordBytes : (pre post action : ℕ) → List ℕ
-recordBytes pre post action = lowBytes 8 pre ++ (lowBytes 8 post ++ (lowBytes 2 action ++ lowBytes 6 0))
+-- a transition's record: action and mark are the entry's three bytes
+unfoldable pub recordBytes : (pre post entry : ℕ) → List ℕ
+recordBytes pre post entry = lowBytes 8 pre ++ (lowBytes 8 post ++ (lowBytes 3 entry ++ lowBytes 5 0))
 
--- the records of transitions with these actions, by all arcs of the drawing
+-- the records of transitions with these entries, by all arcs of the drawing
 unfoldable pub recordsOf : List Arc → (actions : List ℕ) → List ℕ
 recordsOf arcs [] = []
 recordsOf arcs (a ∷ l) = recordsOf arcs l ++ recordBytes (setOf arcs (length l) false) (setOf arcs (length l) true) a

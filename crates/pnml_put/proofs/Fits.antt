@@ -9,10 +9,10 @@ use lib.Seq.{sets}
 use Rattle.texts.specs.Text.{bytes, decimal}
 use Rattle.texts.proofs.Buffers.{sets-append}
 use Rattle.texts.proofs.Digits.{decimal-length}
-use Rattle.pnml_shape.specs.Drawing.{joined, openings, placePieces, transitionPieces}
-use Rattle.pnml_put.specs.Put.{Put, Fit, Whole}
+use Rattle.pnml_shape.specs.Drawing.{joined, openings, placePieces, pressedPieces, optionalPieces}
+use Rattle.pnml_put.specs.Put.{Put, Fit, Whole, namedText}
 use Rattle.pnml_put.proofs.Puts.{put-length}
-use Rattle.pnml_put.proofs.Pieces.{place-text, transition-text, arcText}
+use Rattle.pnml_put.proofs.Pieces.{place-text, pressed-text, optional-text, arcText}
 
 -- nothing yet
 pub fit-none : (l : List ℕ) (at : ℕ) → at ≤ length l → Fit 0 l l at [] at
@@ -105,14 +105,28 @@ place-long i m h k =
     let b = decimal-length 0 m (omega arith) in
     (omega (arith, e, l, a, b), omega (arith, e, l, a, b))
 
-pub transition-long : (i m : ℕ) → i < 100 → m < 100000
-    → (length (joined (transitionPieces i m)) ≤ 65) × (65 ≤ length (joined (transitionPieces i m)) + 20)
-transition-long i m h k =
-    let e = ap length (transition-text i m) in
-    let l = long (bytes "<transition id=\"t") (decimal i) (bytes "\"><name><text>") (decimal m) (bytes "</text></name></transition>") in
-    let a = decimal-length 1 i (omega arith) in
-    let b = decimal-length 4 m (omega arith) in
-    (omega (arith, e, l, a, b), omega (arith, e, l, a, b))
+-- a transition up to its action, with its end
+pub named-long : (i a : ℕ) (end : List ℕ) → length (namedText i a ++ end) ≡ 31 + length (decimal i) + length (decimal a) + length end
+named-long i a end = simp length-append (omega arith)
+
+-- its bounds, by those of its end
+end-long : {l : List ℕ} (i a : ℕ) (end : List ℕ) → i < 100 → a < 100000 → namedText i a ++ end ≡ l
+    → (length l ≤ 38 + length end) × (38 + length end ≤ length l + 20)
+end-long {l} i a end h k t =
+    let e = ap length t in
+    let n = named-long i a end in
+    let x = decimal-length 1 i (omega arith) in
+    let y = decimal-length 4 a (omega arith) in
+    (omega (arith, e, n, x, y), omega (arith, e, n, x, y))
+
+pub pressed-long : (i a : ℕ) → i < 100 → a < 100000
+    → (length (joined (pressedPieces i a)) ≤ 65) × (65 ≤ length (joined (pressedPieces i a)) + 20)
+pressed-long i a h k = end-long i a (bytes "</text></name></transition>") h k (pressed-text i a)
+
+pub optional-long : (i a : ℕ) → i < 100 → a < 100000
+    → (length (joined (optionalPieces i a)) ≤ 104) × (104 ≤ length (joined (optionalPieces i a)) + 20)
+optional-long i a h k =
+    end-long i a (bytes "</text></name><toolspecific tool=\"desk\" version=\"1\"/></transition>") h k (optional-text i a)
 
 pub longer : (a b c d e f g : List ℕ)
     → length (a ++ (b ++ (c ++ (d ++ (e ++ (f ++ g)))))) ≡ length a + (length b + (length c + (length d + (length e + (length f + length g)))))

@@ -1,16 +1,19 @@
 -- The words and numbers that are put, as the pieces of a drawing's text. Assumes nothing.
 use mathlib.Core.Path.{_≡_, refl, sym, ap, ap₂, _∙_}
-use mathlib.Core.Bool.{true, false}
+use mathlib.Core.Bool.{Bool, true, false, cond}
 use mathlib.Core.List.{List, [], _∷_, _++_, append-assoc}
-use Prim.Native.Nat.{ℕ, zero, suc, _+_}
+use Prim.Native.Nat.{ℕ, zero, suc, _+_, _-_, _<_}
+use native.Mathlib.Nat.{add-zero}
+use native.Mathlib.Omega.{arith}
 use native.Mathlib.Numerals.{add-one}
 use lib.ListN.{length}
+use borrow.Author.Tests.{lt-ltb, le-ltb}
 use Rattle.texts.specs.Text.{bytes, decimal}
-use Rattle.pnml_shape.specs.Drawing.{Drawing, placePieces, transitionPieces, arcPiece, openings, closings, places, transitions, arcs}
-use Rattle.pnml_shape.specs.Drawing.{pieces, joined, written}
-use Rattle.pnml_net.specs.Nets.{countdown}
+use Rattle.pnml_shape.specs.Drawing.{Drawing, placePieces, pressedPieces, optionalPieces, transitionPieces, arcPiece, openings, closings}
+use Rattle.pnml_shape.specs.Drawing.{places, transitions, arcs, pieces, joined, written}
+use Rattle.pnml_net.specs.Nets.{countdown, entryBy}
 use Rattle.pnml_net.proofs.Marks.{countdown-length}
-use Rattle.pnml_put.specs.Put.{arcOf}
+use Rattle.pnml_put.specs.Put.{arcOf, namedText}
 
 -- ---- one place, one transition
 
@@ -25,13 +28,38 @@ place-text i m =
     regroup (bytes "<place id=\"p") (decimal i) (bytes "\">") (bytes "<initialMarking><text>")
     (decimal m) (bytes "</text>") (bytes "</initialMarking></place>")
 
-pub transition-text : (i a : ℕ)
-    → bytes "<transition id=\"t" ++ (decimal i ++ (bytes "\"><name><text>" ++ (decimal a ++ bytes "</text></name></transition>")))
-    ≡ joined (transitionPieces i a)
-unfolding transitionPieces joined
-transition-text i a =
-    regroup (bytes "<transition id=\"t") (decimal i) (bytes "\">") (bytes "<name><text>")
-    (decimal a) (bytes "</text>") (bytes "</name></transition>")
+-- a transition up to its action, and then its end
+named-end : (i a : ℕ) (end : List ℕ)
+    → namedText i a ++ (bytes "</text>" ++ end)
+    ≡ (bytes "<transition id=\"t" ++ (decimal i ++ bytes "\">"))
+    ++ (bytes "<name><text>" ++ ((decimal a ++ bytes "</text>") ++ end))
+named-end i a end = simp append-assoc
+
+pub pressed-text : (i a : ℕ) → namedText i a ++ bytes "</text></name></transition>" ≡ joined (pressedPieces i a)
+unfolding pressedPieces joined
+pressed-text i a = named-end i a (bytes "</name></transition>")
+
+pub optional-text : (i a : ℕ)
+    → namedText i a ++ bytes "</text></name><toolspecific tool=\"desk\" version=\"1\"/></transition>"
+    ≡ joined (optionalPieces i a)
+unfolding optionalPieces joined
+optional-text i a = named-end i a (bytes "</name><toolspecific tool=\"desk\" version=\"1\"/></transition>")
+
+-- by the entry
+pub pressed-entry : {b : Bool} (i a : ℕ) → a < 65536 → b ≡ false → joined (pressedPieces i a) ≡ joined (transitionPieces i (entryBy a b))
+unfolding transitionPieces entryBy
+pressed-entry {b} i a h e =
+    ap (λ (t : Bool). joined (cond t (pressedPieces i a) (optionalPieces i (a - 65536)))) (sym (lt-ltb a 65536 h))
+    ∙ ap (λ (x : ℕ). joined (transitionPieces i x)) (sym (ap (λ (t : Bool). a + cond t 65536 0) e ∙ add-zero a))
+
+pub optional-entry : {b : Bool} (i a : ℕ) → b ≡ true → joined (optionalPieces i a) ≡ joined (transitionPieces i (entryBy a b))
+unfolding transitionPieces entryBy
+optional-entry {b} i a e =
+    let less : (a + 65536) - 65536 ≡ a = omega arith in
+    ap (λ (x : ℕ). joined (optionalPieces i x)) (sym less)
+    ∙ ap (λ (t : Bool). joined (cond t (pressedPieces i (a + 65536)) (optionalPieces i ((a + 65536) - 65536))))
+    (sym (le-ltb (a + 65536) 65536 (omega arith)))
+    ∙ ap (λ (t : Bool). joined (transitionPieces i (a + cond t 65536 0))) (sym e)
 
 -- ---- one arc
 

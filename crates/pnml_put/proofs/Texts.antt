@@ -2,19 +2,20 @@
 use mathlib.Core.Path.{_≡_, refl, sym, ap₂, _∙_}
 use mathlib.Core.Bool.{true}
 use mathlib.Core.List.{List, _∷_, _++_, append-assoc}
-use Prim.Native.Nat.{ℕ, zero, suc, _≤_, _<_}
+use Prim.Native.Nat.{ℕ, zero, suc, _+_, _*_, _≤_, _<_}
 use native.Mathlib.Nat.{le-refl}
 use native.Mathlib.Omega.{arith}
-use lib.ListN.{length}
+use lib.ListN.{length, getD}
+use lib.Dec.{eqb}
 use Rattle.texts.specs.Text.{bytes}
 use Rattle.tables.proofs.Counts.{sized-most}
-use Rattle.tables.proofs.Entries.{getD-upTo}
-use Rattle.net.specs.Table.{netOf, actionAt, tableSized, transitions}
-use Rattle.net.specs.Step.{actionOf}
+use Rattle.tables.proofs.Numbers.{field-one}
+use Rattle.net.specs.Table.{netOf, actionAt, markAt, optionalAt, tableSized, transitions}
 use Rattle.pnml_shape.specs.Drawing.{Arc, joined, openings, arcs}
 use Rattle.pnml_shape.specs.Drawing as drawing
-use Rattle.pnml_net.specs.Nets.{countdown, markOf, drawingOf}
-use Rattle.pnml_put.specs.Put.{bodyText, netText, placesText, transitionsText, tableArcs}
+use Rattle.pnml_net.specs.Nets.{countdown, markOf, entryBy, entryOf, drawingOf}
+use Rattle.pnml_net.proofs.Entries.{entry-decoded}
+use Rattle.pnml_put.specs.Put.{bodyText, netText, placesText, transitionsText, entryAt, tableArcs}
 use Rattle.pnml_put.proofs.Pieces.{whole-text}
 use Rattle.pnml_put.proofs.Arcs.{table-arcs}
 
@@ -26,24 +27,29 @@ countdown-same f g (suc n) h = ap₂ (λ (x : ℕ) (l : List ℕ). x ∷ l) (h n
 regroup : (a b c d e : List ℕ) → (a ++ (b ++ (c ++ d))) ++ e ≡ a ++ (b ++ (c ++ (d ++ e)))
 regroup a b c d e = simp append-assoc
 
+-- the entry, by the action and the byte after it
+pub entry-read : (b : List ℕ) (t : ℕ) {a : ℕ} → a ≡ actionAt b t → entryBy a (eqb (getD b (t * 24 + 18) 0) 1) ≡ entryAt b t
+unfolding entryAt optionalAt markAt
+entry-read b t e = ap₂ (λ (x y : ℕ). entryBy x (eqb y 1)) e (field-one (t * 24 + 18) b)
+
 module _ (b : List ℕ) (sized : tableSized b ≡ true) where
   pub count-most : transitions b ≤ 64
   unfolding tableSized transitions
   count-most = sized-most 24 1 64 (length b) sized
 
   module _ (n m : ℕ) where
-    decoded-action : (t : ℕ) → t < transitions b → actionAt b t ≡ actionOf (netOf n b) t
-    unfolding netOf
-    decoded-action t h = sym (getD-upTo (actionAt b) (transitions b) 64 t h count-most)
+    decoded-entry : (t : ℕ) → t < transitions b → entryAt b t ≡ entryOf (netOf n b) t
+    unfolding entryAt
+    decoded-entry t h = sym (entry-decoded n b count-most t h)
 
     pub net-text : bodyText b n m (transitions b) ++ bytes "</page></net></pnml>" ≡ netText b n m
     unfolding netText drawingOf netOf
     net-text =
-        regroup (joined openings) (placesText (markOf m) n) (transitionsText (actionAt b) (transitions b))
+        regroup (joined openings) (placesText (markOf m) n) (transitionsText (entryAt b) (transitions b))
         (joined (arcs (tableArcs b n (transitions b)))) (bytes "</page></net></pnml>")
         ∙ ap₂
         (λ (l : List ℕ) (a : List Arc).
         joined openings ++ (placesText (markOf m) n ++ (joined (drawing.transitions l) ++ (joined (arcs a) ++ bytes "</page></net></pnml>"))))
-        (countdown-same (actionAt b) (actionOf (netOf n b)) (transitions b) decoded-action)
+        (countdown-same (entryAt b) (entryOf (netOf n b)) (transitions b) decoded-entry)
         (table-arcs b n (transitions b) sized (le-refl _))
         ∙ whole-text (drawingOf (netOf n b) m)

@@ -6,10 +6,10 @@ use mathlib.Core.Bool.{Bool, true, false, cond}
 use mathlib.Core.List.{List, [], _∷_, _++_}
 use lib.ListN.{length}
 use lib.Seq.{sets}
-use Rattle.net.specs.Table.{netOf, preAt, postAt, actionAt}
-use Rattle.texts.specs.Text.{bytes}
+use Rattle.net.specs.Table.{netOf, preAt, postAt, actionAt, optionalAt}
+use Rattle.texts.specs.Text.{bytes, decimal}
 use Rattle.pnml_shape.specs.Drawing.{Arc, arcPiece, joined, openings, places, transitions, arcs, written}
-use Rattle.pnml_net.specs.Nets.{countdown, markOf, arcsBy, drawingOf}
+use Rattle.pnml_net.specs.Nets.{countdown, markOf, arcsBy, entryBy, drawingOf}
 
 -- a call that puts vs, at most so many bytes, from an index on, and answers the index after it: the bytes stand there, and all others stay
 pub record Put (most : ℕ) (before after : List ℕ) (at : ℕ) (vs : List ℕ) (r : ℕ) : Type 0 where
@@ -31,12 +31,20 @@ pub record Whole (most : ℕ) (before after vs : List ℕ) (r : ℕ) : Type 0 wh
 
 -- ---- what the calls put
 
--- places with these marks, transitions with these actions
+-- places with these marks, transitions with these entries
 abbrev pub placesText : (marks : ℕ → ℕ) (count : ℕ) → List ℕ
 placesText f n = joined (places (countdown f n))
 
-abbrev pub transitionsText : (actions : ℕ → ℕ) (count : ℕ) → List ℕ
+abbrev pub transitionsText : (entries : ℕ → ℕ) (count : ℕ) → List ℕ
 transitionsText f n = joined (transitions (countdown f n))
+
+-- a transition up to its action
+abbrev pub namedText : (number action : ℕ) → List ℕ
+namedText i a = bytes "<transition id=\"t" ++ (decimal i ++ (bytes "\"><name><text>" ++ decimal a))
+
+-- the entry of a table's transition
+unfoldable pub entryAt : (bytes : List ℕ) (transition : ℕ) → ℕ
+entryAt b t = entryBy (actionAt b t) (optionalAt b t)
 
 -- the arc between a transition and a place
 abbrev pub arcOf : (transition : ℕ) (post : Bool) (place : ℕ) → Arc
@@ -71,7 +79,7 @@ pub record FitArcs (most : ℕ) (before after : List ℕ) (at others : ℕ) (l :
 
 -- what stands before the end
 abbrev pub bodyText : (bytes : List ℕ) (places marking transitions : ℕ) → List ℕ
-bodyText b n m k = joined openings ++ (placesText (markOf m) n ++ (transitionsText (actionAt b) k ++ arcsText b n k))
+bodyText b n m k = joined openings ++ (placesText (markOf m) n ++ (transitionsText (entryAt b) k ++ arcsText b n k))
 
 -- the text of the net that a table holds, with a marking
 unfoldable pub netText : (bytes : List ℕ) (places marking : ℕ) → List ℕ

@@ -1,5 +1,6 @@
 // The PNML text of a net with a marking, put into lent room. An element is put where the room left would hold the longest of its kind: one test
-// for all its bytes. A text that fits is put whole, since the text's end is longer than the longest of a kind is over the shortest.
+// for all its bytes. A text that fits is put whole, since the text's end is longer than the longest of a kind is over the shortest. Pressed and
+// optional transitions are two kinds.
 ghost use mathlib.Core.Path.{_≡_};
 ghost use mathlib.Core.Bool.{true, false};
 ghost use Prim.Native.Nat.{_+_, _*_, _≤_, _<_};
@@ -131,30 +132,67 @@ fn places(room: &mut [u8], at: usize, count: u32, marking: u64) -> usize
 
 // ---- transitions
 
-// Puts a transition.
-fn transition(room: &mut [u8], at: usize, i: usize, action: u16) -> usize
+// Puts a transition up to its action.
+fn named(room: &mut [u8], at: usize, i: usize, action: u16) -> usize
+    requires { ⌜ (i < 100) × (at + 38 ≤ length (now room)) ⌝ }
+    ensures { λ r. ⌜ puts.Put 38 (now (room .entry)) (now (room .exit)) at (puts.namedText i action) r ⌝ }
+{
+    let at = word(room, at, b"<transition id=\"t");
+    let at = two(room, at, i);
+    let at = word(room, at, b"\"><name><text>");
+    five(room, at, action as usize)
+}
+
+// Puts a pressed transition.
+fn pressed(room: &mut [u8], at: usize, i: usize, action: u16) -> usize
     requires { ⌜ (at ≤ length (now room)) × (i < 100) ⌝ }
-    ensures { λ r. ⌜ puts.Fit 65 (now (room .entry)) (now (room .exit)) at (drawing.joined (drawing.transitionPieces i action)) r ⌝ }
+    ensures { λ r. ⌜ puts.Fit 65 (now (room .entry)) (now (room .exit)) at (drawing.joined (drawing.pressedPieces i action)) r ⌝ }
 {
     if room.len() - at < 65 {
         return at;
     }
-    let at = word(room, at, b"<transition id=\"t");
-    let at = two(room, at, i);
-    let at = word(room, at, b"\"><name><text>");
-    let at = five(room, at, action as usize);
+    let at = named(room, at, i, action);
     word(room, at, b"</text></name></transition>")
+}
+
+// Puts an optional transition.
+fn optional(room: &mut [u8], at: usize, i: usize, action: u16) -> usize
+    requires { ⌜ (at ≤ length (now room)) × (i < 100) ⌝ }
+    ensures { λ r. ⌜ puts.Fit 104 (now (room .entry)) (now (room .exit)) at (drawing.joined (drawing.optionalPieces i action)) r ⌝ }
+{
+    if room.len() - at < 104 {
+        return at;
+    }
+    let at = named(room, at, i, action);
+    word(
+        room,
+        at,
+        b"</text></name><toolspecific tool=\"desk\" version=\"1\"/></transition>",
+    )
+}
+
+// Puts a transition, optional or pressed.
+fn transition(room: &mut [u8], at: usize, i: usize, action: u16, optional: bool) -> usize
+    requires { ⌜ (at ≤ length (now room)) × (i < 100) ⌝ }
+    ensures { λ r. ⌜ puts.Fit 104 (now (room .entry)) (now (room .exit)) at (drawing.joined (drawing.transitionPieces i (nets.entryBy action optional))) r ⌝ }
+{
+    if optional {
+        return self::optional(room, at, i, action);
+    }
+    pressed(room, at, i, action)
 }
 
 // Puts the transitions of a table.
 fn transitions(room: &mut [u8], at: usize, count: usize, net: &[u8]) -> usize
     requires { ⌜ (at ≤ length (now room)) × (count ≤ 64) × (count * table.transitionSize ≤ length (now net)) ⌝ }
-    ensures { λ r. ⌜ puts.Fit (65 * count) (now (room .entry)) (now (room .exit)) at (puts.transitionsText (table.actionAt (now (net .entry))) count) r ⌝ }
+    ensures { λ r. ⌜ puts.Fit (104 * count) (now (room .entry)) (now (room .exit)) at (puts.transitionsText (puts.entryAt (now (net .entry))) count) r ⌝ }
 {
     let mut next = at;
     let mut t = 0;
     while t < count {
-        next = transition(room, next, t, tables::u16_at(net, t * net::RECORD + 16));
+        let from = t * net::RECORD;
+        let action = tables::u16_at(net, from + 16);
+        next = transition(room, next, t, action, net[from + 18] == 1);
         t += 1;
     }
     next
@@ -335,7 +373,7 @@ fn opening(room: &mut [u8]) -> usize
 // Puts what stands before the end, and answers the index after it.
 fn body(room: &mut [u8], places: u32, marking: u64, transitions: usize, net: &[u8]) -> usize
     requires { ⌜ (places ≤ 64) × (transitions ≤ 64) × (transitions * table.transitionSize ≤ length (now net)) ⌝ }
-    ensures { λ r. ⌜ puts.Fit (139 + 71 * places + 5569 * transitions) (now (room .entry)) (now (room .exit)) 0 (puts.bodyText (now (net .entry)) places marking transitions) r ⌝ }
+    ensures { λ r. ⌜ puts.Fit (139 + 71 * places + 5608 * transitions) (now (room .entry)) (now (room .exit)) 0 (puts.bodyText (now (net .entry)) places marking transitions) r ⌝ }
 {
     let at = opening(room);
     let at = self::places(room, at, places, marking);
@@ -346,7 +384,7 @@ fn body(room: &mut [u8], places: u32, marking: u64, transitions: usize, net: &[u
 // Puts the text at the start of the room where it fits, and answers its length.
 pub fn text(room: &mut [u8], places: u32, marking: u64, net: &[u8]) -> usize
     requires { ⌜ (places ≤ 64) × (table.tableSized (now net) ≡ true) ⌝ }
-    ensures { λ r. ⌜ puts.Whole (159 + 71 * places + 5569 * table.transitions (now (net .entry))) (now (room .entry)) (now (room .exit)) (puts.netText (now (net .entry)) places marking) r ⌝ }
+    ensures { λ r. ⌜ puts.Whole (159 + 71 * places + 5608 * table.transitions (now (net .entry))) (now (room .entry)) (now (room .exit)) (puts.netText (now (net .entry)) places marking) r ⌝ }
 {
     let at = body(room, places, marking, net.len() / net::RECORD, net);
     if room.len() - at < 20 {

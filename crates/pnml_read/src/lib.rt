@@ -45,7 +45,7 @@ fn read_opened(text: &[u8], at: usize, room: &mut [u8]) -> ReadResult
 {
     let mut pre = [0u64; 64];
     let mut post = [0u64; 64];
-    let mut action = [0u16; 64];
+    let mut action = [0u32; 64];
     let t = pnml_turn::read_elements(text, at, &mut pre, &mut post, &mut action);
     if !t.ok {
         return ReadResult::Left(t.at);

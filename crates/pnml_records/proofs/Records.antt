@@ -1,4 +1,4 @@
--- The records of tables that hold the sets and actions of a drawing are the drawing's records. Assumes nothing.
+-- The records of tables that hold the sets and entries of a drawing are the drawing's records. Assumes nothing.
 use mathlib.Core.Path.{_≡_, refl, ap, ap₂, _∙_}
 use mathlib.Core.Bool.{true, false}
 use mathlib.Core.List.{List, [], _∷_, _++_}
@@ -10,7 +10,7 @@ use Rattle.pnml_net.specs.Nets.{numbered, setOf, recordBytes, recordsOf}
 use Rattle.pnml_net.proofs.Lists.{numbered-before, numbered-last}
 use Rattle.pnml_records.specs.Records.{recordsBy}
 
--- tables that agree with the sets and actions give the drawing's records
+-- tables that agree with the sets and entries give the drawing's records
 pub records-by : (arcs : List Arc) (actions pre post action : List ℕ)
     → ((t : ℕ) → t < length actions → (getD pre t 0 ≡ setOf arcs t false) × (getD post t 0 ≡ setOf arcs t true))
     → ((t : ℕ) → t < length actions → getD action t 0 ≡ numbered actions t)

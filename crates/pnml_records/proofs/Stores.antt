@@ -46,18 +46,18 @@ after-low l i n x ws e = after l i (lowBytes n x) ws (e ∙ ap (λ (k : ℕ). i 
 -- ---- records
 
 -- the four fields of a record
-pub record-put : (l : List ℕ) {l₁ l₂ l₃ l₄ : List ℕ} (i pre post action : ℕ) → l₁ ≡ sets l i (lowBytes 8 pre)
-    → l₂ ≡ sets l₁ (i + 8) (lowBytes 8 post) → l₃ ≡ sets l₂ (i + 16) (lowBytes 2 action) → l₄ ≡ sets l₃ (i + 18) (lowBytes 6 0)
-    → l₄ ≡ sets l i (recordBytes pre post action)
+pub record-put : (l : List ℕ) {l₁ l₂ l₃ l₄ : List ℕ} (i pre post entry : ℕ) → l₁ ≡ sets l i (lowBytes 8 pre)
+    → l₂ ≡ sets l₁ (i + 8) (lowBytes 8 post) → l₃ ≡ sets l₂ (i + 16) (lowBytes 3 entry) → l₄ ≡ sets l₃ (i + 19) (lowBytes 5 0)
+    → l₄ ≡ sets l i (recordBytes pre post entry)
 unfolding recordBytes
-record-put l {l₁} {l₂} i pre post action p q r s =
-    after-low l i 8 pre (lowBytes 8 post ++ (lowBytes 2 action ++ lowBytes 6 0)) refl p
-    (after-low l₁ (i + 8) 8 post (lowBytes 2 action ++ lowBytes 6 0) (omega arith) q
-    (after-low l₂ (i + 16) 2 action (lowBytes 6 0) (omega arith) r s))
+record-put l {l₁} {l₂} i pre post entry p q r s =
+    after-low l i 8 pre (lowBytes 8 post ++ (lowBytes 3 entry ++ lowBytes 5 0)) refl p
+    (after-low l₁ (i + 8) 8 post (lowBytes 3 entry ++ lowBytes 5 0) (omega arith) q
+    (after-low l₂ (i + 16) 3 entry (lowBytes 5 0) (omega arith) r s))
 
-record-length : (pre post action : ℕ) → length (recordBytes pre post action) ≡ transitionSize
+record-length : (pre post entry : ℕ) → length (recordBytes pre post entry) ≡ transitionSize
 unfolding recordBytes lowBytes
-record-length pre post action = refl
+record-length pre post entry = refl
 
 module _ (pre post action : List ℕ) where
   pub by-length : (t : ℕ) → length (recordsBy pre post action t) ≡ t * transitionSize

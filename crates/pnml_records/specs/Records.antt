@@ -1,5 +1,5 @@
 -- Serves the code's proof: contracts cite it, no meaning depends on it. The records of transitions whose sets
--- and actions stand in tables. Assumes nothing.
+-- and entries stand in tables. Assumes nothing.
 use Prim.Native.Nat.{ℕ, zero, suc}
 use mathlib.Core.List.{List, [], _++_}
 use lib.ListN.{getD}

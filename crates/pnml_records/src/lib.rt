@@ -23,16 +23,16 @@ fn put_bytes(room: &mut [u8], at: usize, n: usize, x: u64)
     }
 }
 
-// Puts the record of a transition with these sets and action.
-fn put_record(room: &mut [u8], t: usize, pre: u64, post: u64, action: u16)
+// Puts the record of a transition with these sets and entry: its action, and 65,536 more where it is optional.
+fn put_record(room: &mut [u8], t: usize, pre: u64, post: u64, action: u32)
     requires { ⌜ t * transitionSize + transitionSize ≤ length (now room) ⌝ }
     ensures { λ _. ⌜ now (room .exit) ≡ sets (now (room .entry)) (t * transitionSize) (recordBytes pre post action) ⌝ }
 {
     let at = t * net::RECORD;
     put_bytes(room, at, 8, pre);
     put_bytes(room, at + 8, 8, post);
-    put_bytes(room, at + 16, 2, action as u64);
-    put_bytes(room, at + 18, 6, 0);
+    put_bytes(room, at + 16, 3, action as u64);
+    put_bytes(room, at + 19, 5, 0);
 }
 
 // Puts the records of the first transitions.
@@ -41,7 +41,7 @@ pub fn put_records<'a>(
     count: usize,
     pre: &'a [u64; 64],
     post: &'a [u64; 64],
-    action: &'a [u16; 64],
+    action: &'a [u32; 64],
 )
     requires { ⌜ (count ≤ 64) × (count * transitionSize ≤ length (now room)) ⌝ }
     ensures { λ _. ⌜ now (room .exit) ≡ sets (now (room .entry)) 0 (recordsBy (now (pre .entry)) (now (post .entry)) (now (action .entry)) count) ⌝ }

@@ -2,4 +2,5 @@
 pub mod Scan
 pub mod Numbers
 pub mod Parts
+pub mod Marks
 pub mod Arcs

@@ -11,10 +11,10 @@ use borrow.Author.Tests.{eqb-true, eqb-false}
 use Rattle.texts.specs.Text.{bytes}
 use Rattle.pnml_shape.specs.Shape.{white}
 use Rattle.pnml_shape.specs.Drawing.{Drawing}
-use Rattle.pnml_shape.specs.Machine.{Format, ends, spell, space, number, turn, addPlace, addTransition}
-use Rattle.pnml_shape.specs.Machine.{placeFormat, transitionFormat, closing, start, step, stopped, drawn, finish, scan}
+use Rattle.pnml_shape.specs.Machine.{Format, ends, spell, space, number, turn, addPlace}
+use Rattle.pnml_shape.specs.Machine.{placeFormat, closing, start, step, stopped, drawn, finish, scan}
 use Rattle.pnml_scan.specs.Serving.{goesOn, Skipped, NextSkipped, Word, Tag, Value, Ended, Opened, Closed}
-use Rattle.pnml_scan.specs.Serving.{PlaceRead, TransitionRead}
+use Rattle.pnml_scan.specs.Serving.{PlaceRead}
 use Rattle.pnml_scan.proofs.Scan.{refused, at-end, word-firm, ends-keeps, tag-of}
 
 -- ---- after a part that is not there
@@ -176,34 +176,23 @@ module _ {t : List ℕ} {at : ℕ} where
             ∙ u .same _;
       }
 
-  -- head, label and end, with any number that equals the one that was read
-  element : {w : List ℕ} {n : ℕ} {o : List ℕ} {m : ℕ} {e x : List ℕ} {v : ℕ} {a b c : Bool} {i j k : ℕ}
-      → Headed t at w n a i → Labelled t a i o m e b j v → Tag t b j x c k → (n′ : ℕ) → n′ ≡ n → (K : ℕ → Format)
-      → scan (headFormat w n′ (labelFormat o m e (λ u. space (spell x (K u))))) at (drop at t) ≡ goesOn c k (K v) t
-  element {w = w} {o = o} {m = m} {e = e} {x = x} {v = v} p q r n′ h K =
-      ap (λ (y : ℕ). scan (headFormat w y (labelFormat o m e (λ u. space (spell x (K u))))) at (drop at t)) h
-      ∙ p .same (labelFormat o m e (λ u. space (spell x (K u))))
-      ∙ q .same (λ u. space (spell x (K u)))
-      ∙ r .same (K v)
+  -- head and label, with any number that equals the one that was read
+  element : {w : List ℕ} {n : ℕ} {o : List ℕ} {m : ℕ} {e : List ℕ} {v : ℕ} {a b : Bool} {i j : ℕ}
+      → Headed t at w n a i → Labelled t a i o m e b j v → (n′ : ℕ) → n′ ≡ n → (K : ℕ → Format)
+      → scan (headFormat w n′ (labelFormat o m e K)) at (drop at t) ≡ goesOn b j (K v) t
+  element {w = w} {o = o} {m = m} {e = e} p q n′ h K =
+      ap (λ (y : ℕ). scan (headFormat w y (labelFormat o m e K)) at (drop at t)) h
+      ∙ p .same (labelFormat o m e K)
+      ∙ q .same K
 
   pub place-of : {n v : ℕ} {a b c : Bool} {i j k : ℕ} → Headed t at (bytes "lace id=\"p") n a i
       → Labelled t a i (bytes "<initialMarking>") 1 (bytes "</initialMarking>") b j v → Tag t b j (bytes "</place>") c k → PlaceRead t at n c k v
   unfolding placeFormat headFormat labelFormat
-  place-of p q r =
+  place-of {v = v} p q r =
       record {
         inside = r .inside;
         from = omega (arith, p .from, q .from, r .from);
         most = q .small;
-        same = λ d e. element p q r (length (d .marks)) e (λ m. turn (addPlace d m));
-      }
-
-  pub transition-of : {n v : ℕ} {a b c : Bool} {i j k : ℕ} → Headed t at (bytes "ransition id=\"t") n a i
-      → Labelled t a i (bytes "<name>") 65535 (bytes "</name>") b j v → Tag t b j (bytes "</transition>") c k → TransitionRead t at n c k v
-  unfolding transitionFormat headFormat labelFormat
-  transition-of p q r =
-      record {
-        inside = r .inside;
-        from = omega (arith, p .from, q .from, r .from);
-        most = q .small;
-        same = λ d e. element p q r (length (d .actions)) e (λ a. turn (addTransition d a));
+        same = λ d e.
+            element p q (length (d .marks)) e (λ m. space (spell (bytes "</place>") (turn (addPlace d m)))) ∙ r .same (turn (addPlace d v));
       }

@@ -60,11 +60,11 @@ unfolding spell
 word-left w i F h =
     ap (λ (s : List ℕ). spell s F) (drop-cons w i 0 h) ∙ ap (λ (n : ℕ). byte (getD w i 0) (spell (drop n w) F)) (sym (add-one i))
 
-byte-taken : (b c : ℕ) (F : Format) → b ≡ c → step (byte c F) b ≡ some F
+pub byte-taken : (b c : ℕ) (F : Format) → b ≡ c → step (byte c F) b ≡ some F
 unfolding step
 byte-taken b c F e = ap (λ (x : Bool). cond x (some F) none) (eq-eqb b c e)
 
-byte-other : (b c : ℕ) (F : Format) → (b ≡ c → ⊥) → step (byte c F) b ≡ none
+pub byte-other : (b c : ℕ) (F : Format) → (b ≡ c → ⊥) → step (byte c F) b ≡ none
 unfolding step
 byte-other b c F e = ap (λ (x : Bool). cond x (some F) none) (ne-eqb b c e)
 

@@ -2,10 +2,11 @@
 -- Assumes nothing.
 use Prim.Native.Nat.{ℕ, _+_, _-_, _≤_, _<_}
 use mathlib.Core.Path.{_≡_}
-use mathlib.Core.Bool.{Bool, true, false, cond}
+use mathlib.Core.Bool.{Bool, true, false, cond, _&&_}
 use mathlib.Core.List.{List, []}
 use mathlib.Core.Option.{some}
 use lib.ListN.{length, drop, getD}
+use lib.Dec.{eqb, leb}
 use Rattle.pnml_shape.specs.Shape.{white}
 use Rattle.texts.specs.Text.{bytes}
 use Rattle.pnml_shape.specs.Drawing.{Arc, Drawing}
@@ -107,11 +108,38 @@ pub record PlaceRead (t : List ℕ) (at places : ℕ) (ok : Bool) (r v : ℕ) : 
   pub most : v ≤ 1
   pub same : (d : Drawing) → length (d .marks) ≡ places → scan (placeFormat d) at (drop at t) ≡ goesOn ok r (turn (addPlace d v)) t
 
--- a transition from `<t` on, in a drawing with so many transitions
+-- `<t` is there, as the mark of an optional transition begins
+unfoldable pub markOpens : (text : List ℕ) (at : ℕ) → Bool
+markOpens t at = leb (at + 2) (length t) && (eqb (getD t at 0) 60 && eqb (getD t (at + 1) 0) 116)
+
+-- what follows a transition's name and white space: a mark, and the end
+unfoldable pub markFormat : (action : ℕ) → (ℕ → Format) → Format
+markFormat a K =
+    byte 60 (either 116 true (spell (bytes "oolspecific tool=\"desk\" version=\"1\"/>") (space (spell (bytes "</transition>") (K (a + 65536)))))
+    (spell (bytes "/transition>") (K a)))
+
+-- the mark is read, where there is one; v is the action with what the mark adds
+pub record MarkRead (t : List ℕ) (had : Bool) (at action : ℕ) (ok : Bool) (r v : ℕ) : Type 0 where
+  pub inside : r ≤ length t
+  pub from : at ≤ r
+  pub most : v ≤ 131071
+  pub same : (K : ℕ → Format) → goesOn had at (markFormat action K) t ≡ goesOn ok r (spell (bytes "</transition>") (K v)) t
+
+-- what follows a transition's action
+unfoldable pub endFormat : (action : ℕ) → (ℕ → Format) → Format
+endFormat a K = spell (bytes "</text>") (space (spell (bytes "</name>") (space (markFormat a K))))
+
+pub record EndRead (t : List ℕ) (had : Bool) (at action : ℕ) (ok : Bool) (r v : ℕ) : Type 0 where
+  pub inside : r ≤ length t
+  pub from : at ≤ r
+  pub most : v ≤ 131071
+  pub same : (K : ℕ → Format) → goesOn had at (endFormat action K) t ≡ goesOn ok r (K v) t
+
+-- a transition from `<t` on, in a drawing with so many transitions; v is its entry
 pub record TransitionRead (t : List ℕ) (at transitions : ℕ) (ok : Bool) (r v : ℕ) : Type 0 where
   pub inside : r ≤ length t
   pub from : at ≤ r
-  pub most : v ≤ 65535
+  pub most : v ≤ 131071
   pub same : (d : Drawing) → length (d .actions) ≡ transitions → scan (transitionFormat d) at (drop at t) ≡ goesOn ok r (turn (addTransition d v)) t
 
 -- ---- arcs

@@ -328,7 +328,86 @@ pub fn place(text: &[u8], at: usize, places: usize) -> Numbered
     }
 }
 
-// A transition from `<t` on, with its action.
+// Whether `<t` is there, as the mark of an optional transition begins.
+fn mark_opens(text: &[u8], at: usize) -> bool
+    requires { ⌜ at ≤ length (now text) ⌝ }
+    ensures { λ r. ⌜ r ≡ serving.markOpens (now (text .entry)) at ⌝ }
+{
+    if text.len() - at < 2 {
+        return false;
+    }
+    (text[at] == 60) & (text[at + 1] == 116)
+}
+
+// That mark and the white space after it, where it begins. The value is the action, with the mark 65,536 more.
+fn next_mark(text: &[u8], had: bool, at: usize, action: usize) -> Numbered
+    requires { ⌜ (at ≤ length (now text)) × (action ≤ 65535) ⌝ }
+    ensures { λ r. ⌜ serving.MarkRead (now (text .entry)) had at action (r .ok) (r .at) (r .value) ⌝ }
+{
+    if !had {
+        return Numbered {
+            ok: false,
+            at: at,
+            value: action,
+        };
+    }
+    if !mark_opens(text, at) {
+        return Numbered {
+            ok: true,
+            at: at,
+            value: action,
+        };
+    }
+    let mark = literal(text, at + 2, b"oolspecific tool=\"desk\" version=\"1\"/>");
+    let next = next_blank(text, mark.ok, mark.at);
+    Numbered {
+        ok: mark.ok,
+        at: next,
+        value: action + 65536,
+    }
+}
+
+// All after a transition's action, tag by tag. The value is the action, for an optional transition 65,536 more.
+fn end_by_tags(text: &[u8], at: usize, action: usize) -> Numbered
+    requires { ⌜ (at ≤ length (now text)) × (action ≤ 65535) ⌝ }
+    ensures { λ r. ⌜ serving.EndRead (now (text .entry)) true at action (r .ok) (r .at) (r .value) ⌝ }
+{
+    let over = literal(text, at, b"</text>");
+    let first = next_blank(text, over.ok, over.at);
+    let closes = next_literal(text, over.ok, first, b"</name>");
+    let second = next_blank(text, closes.ok, closes.at);
+    let mark = next_mark(text, closes.ok, second, action);
+    let end = next_literal(text, mark.ok, mark.at, b"</transition>");
+    Numbered {
+        ok: end.ok,
+        at: end.at,
+        value: mark.value,
+    }
+}
+
+// All after a transition's action. Tag by tag only where white space or a mark stands between, or something is not there.
+fn next_ending(text: &[u8], had: bool, at: usize, action: usize) -> Numbered
+    requires { ⌜ (at ≤ length (now text)) × (action ≤ 65535) ⌝ }
+    ensures { λ r. ⌜ serving.EndRead (now (text .entry)) had at action (r .ok) (r .at) (r .value) ⌝ }
+{
+    if !had {
+        return Numbered {
+            ok: false,
+            at: at,
+            value: action,
+        };
+    }
+    if pnml_quick::there(text, at, b"</text></name></transition>") {
+        return Numbered {
+            ok: true,
+            at: at + 27,
+            value: action,
+        };
+    }
+    end_by_tags(text, at, action)
+}
+
+// A transition from `<t` on, with its action, for an optional one 65,536 more.
 pub fn transition(text: &[u8], at: usize, transitions: usize) -> Numbered
     requires { ⌜ at ≤ length (now text) ⌝ }
     ensures { λ r. ⌜ serving.TransitionRead (now (text .entry)) at transitions (r .ok) (r .at) (r .value) ⌝ }
@@ -341,16 +420,7 @@ pub fn transition(text: &[u8], at: usize, transitions: usize) -> Numbered
     let second = next_blank(text, opens.ok, opens.at);
     let inner = next_literal(text, opens.ok, second, b"<text>");
     let action = next_number(text, inner.ok, inner.at, 0, 65535);
-    let over = next_literal(text, action.ok, action.at, b"</text>");
-    let third = next_blank(text, over.ok, over.at);
-    let closes = next_literal(text, over.ok, third, b"</name>");
-    let fourth = next_blank(text, closes.ok, closes.at);
-    let end = next_literal(text, closes.ok, fourth, b"</transition>");
-    Numbered {
-        ok: end.ok,
-        at: end.at,
-        value: action.value,
-    }
+    next_ending(text, action.ok, action.at, action.value)
 }
 
 // ---- arcs

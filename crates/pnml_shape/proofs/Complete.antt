@@ -7,10 +7,10 @@ use native.Mathlib.Nat.{le-refl}
 use native.Mathlib.Omega.{arith}
 use lib.ListN.{length}
 use lib.Dec.{eqb, ltb, leb}
-use borrow.Author.Tests.{eq-eqb, ltb-true, leb-true}
+use borrow.Author.Tests.{eq-eqb, ltb-true, ltb-false, leb-true}
 use Rattle.tables.proofs.Tests.{and-left, and-right, and-intro, if-true, if-false}
 use Rattle.texts.specs.Text.{bytes, decimal}
-use Rattle.pnml_shape.specs.Drawing.{Arc, Drawing, openings, placePieces, transitionPieces, arcPiece, closings, places, transitions, arcs, pieces, joined, written, rank, lower, rises, arcsGood, atMost, good}
+use Rattle.pnml_shape.specs.Drawing.{Arc, Drawing, openings, placePieces, pressedPieces, optionalPieces, transitionPieces, arcPiece, closings, places, transitions, arcs, pieces, joined, written, rank, lower, rises, arcsGood, atMost, good}
 use Rattle.pnml_shape.specs.Shape.{white, allWhite, Spaced, Draws}
 use Rattle.pnml_shape.specs.Machine.{Format, ends, byte, space, either, number, turn, spell, addPlace, addTransition, addArc, placeFormat, transitionFormat, arcFormat, closing, least, arcOpen, preOpen, preFrom, preInto, postInto, opened, start, step, digit, drawn, finish, scan}
 use Rattle.pnml_shape.proofs.Scans.{Reads, Absorbs, spell-on, spell-drawn, white-on, space-absorbs, turn-absorbs, ends-absorbs, space-off, turn-on, either-first, either-second}
@@ -93,17 +93,78 @@ place-rest x m ps d e l h =
     (space-rest 60 _ _ _ d refl (piece-rest (bytes "</initialMarking>") _ _ d (space-absorbs _)
     (space-rest 60 _ _ _ d refl (piece-rest (bytes "</place>") ps (turn (addPlace x m)) d (turn-absorbs _) h)))))))))
 
-transition-rest : (x : Drawing) (a : ℕ) (ps : List (List ℕ)) (d : Drawing) → length (x .arcs) ≡ 0 → a ≤ 65535 → Rest (turn (addTransition x a)) ps d
-    → Rest (turn x) (transitionPieces (length (x .actions)) a ++ ps) d
-unfolding transitionPieces transitionFormat spell white digit
-transition-rest x a ps d e l h =
-    element-rest x 116 (transitionFormat x) (transitionPieces (length (x .actions)) a ++ ps) d (λ s. opened-transition x s d e)
+-- after a transition's name: its mark or its end
+abbrev pub afterName : Drawing → (action : ℕ) → Format
+afterName x a =
+    byte 60 (either 116 true (spell (bytes "oolspecific tool=\"desk\" version=\"1\"/>") (space (spell (bytes "</transition>") (turn (addTransition x (a + 65536))))))
+    (spell (bytes "/transition>") (turn (addTransition x a))))
+
+-- the pieces of a transition, with those after its name
+abbrev pub namedPieces : (number action : ℕ) → List (List ℕ) → List (List ℕ)
+namedPieces i a ps =
+    (bytes "<transition id=\"t" ++ (decimal i ++ bytes "\">"))
+    ∷ bytes "<name>"
+    ∷ (bytes "<text>" ++ (decimal a ++ bytes "</text>"))
+    ∷ bytes "</name>"
+    ∷ ps
+
+named-rest : (x : Drawing) (a : ℕ) (p : List ℕ) (ps : List (List ℕ)) (d : Drawing) → length (x .arcs) ≡ 0 → a ≤ 65535
+    → Rest (afterName x a) ((60 ∷ p) ∷ ps) d → Rest (turn x) (namedPieces (length (x .actions)) a ((60 ∷ p) ∷ ps)) d
+unfolding transitionFormat spell white digit
+named-rest x a p ps d e l h =
+    element-rest x 116 (transitionFormat x) (namedPieces (length (x .actions)) a ((60 ∷ p) ∷ ps)) d (λ s. opened-transition x s d e)
     (number-rest (bytes "<transition id=\"t") (length (x .actions)) (length (x .actions)) (length (x .actions)) 34 (bytes ">") _ _ d (le-refl _) (le-refl _) refl
     (space-absorbs _)
     (space-rest 60 _ _ _ d refl (piece-rest (bytes "<name>") _ _ d (space-absorbs _)
     (space-rest 60 _ _ _ d refl (number-rest (bytes "<text>") 0 65535 a 60 (bytes "/text>") _ _ d zero-le l refl (space-absorbs _)
-    (space-rest 60 _ _ _ d refl (piece-rest (bytes "</name>") _ _ d (space-absorbs _)
-    (space-rest 60 _ _ _ d refl (piece-rest (bytes "</transition>") ps (turn (addTransition x a)) d (turn-absorbs _) h)))))))))
+    (space-rest 60 _ _ _ d refl (piece-rest (bytes "</name>") _ (space (afterName x a)) d (space-absorbs _)
+    (space-rest 60 p ps (afterName x a) d refl h))))))))
+
+-- one of two after `<`
+first-read : (c : ℕ) (F G : Format) (s : List ℕ) (d : Drawing) → Reads (spell (60 ∷ c ∷ []) F) s d → Reads (byte 60 (either c true F G)) s d
+unfolding spell
+first-read c F G s d h =
+    let (r, e, k) = spell-drawn (60 ∷ c ∷ []) F s d h in
+    subst (λ y. Reads (byte 60 (either c true F G)) y d) (sym e) (spell-on (60 ∷ []) (either c true F G) (c ∷ r) d (either-first c true F G r d refl k))
+
+second-read : (c b : ℕ) (F G : Format) (s : List ℕ) (d : Drawing) → eqb b c ≡ false → Reads (spell (60 ∷ b ∷ []) G) s d → Reads (byte 60 (either c true F (byte b G))) s d
+unfolding spell
+second-read c b F G s d f h =
+    let (r, e, k) = spell-drawn (60 ∷ b ∷ []) G s d h in
+    subst (λ y. Reads (byte 60 (either c true F (byte b G))) y d) (sym e)
+    (spell-on (60 ∷ []) (either c true F (byte b G)) (b ∷ r) d
+    (either-second c true F (byte b G) b r d (ap (λ t. t && true) f) (spell-on (b ∷ []) G r d k)))
+
+pressed-rest : (x : Drawing) (a : ℕ) (ps : List (List ℕ)) (d : Drawing) → length (x .arcs) ≡ 0 → a ≤ 65535 → Rest (turn (addTransition x a)) ps d
+    → Rest (turn x) (pressedPieces (length (x .actions)) a ++ ps) d
+unfolding pressedPieces spell
+pressed-rest x a ps d e l h =
+    named-rest x a (bytes "/transition>") ps d e l (λ s q.
+    second-read 116 47 (spell (bytes "oolspecific tool=\"desk\" version=\"1\"/>") (space (spell (bytes "</transition>") (turn (addTransition x (a + 65536))))))
+    (spell (bytes "transition>") (turn (addTransition x a))) s d refl
+    (piece-rest (bytes "</transition>") ps (turn (addTransition x a)) d (turn-absorbs _) h s q))
+
+optional-rest : (x : Drawing) (a : ℕ) (ps : List (List ℕ)) (d : Drawing) → length (x .arcs) ≡ 0 → a ≤ 65535 → Rest (turn (addTransition x (a + 65536))) ps d
+    → Rest (turn x) (optionalPieces (length (x .actions)) a ++ ps) d
+unfolding optionalPieces spell white
+optional-rest x a ps d e l h =
+    named-rest x a (bytes "toolspecific tool=\"desk\" version=\"1\"/>") (bytes "</transition>" ∷ ps) d e l (λ s q.
+    first-read 116 (spell (bytes "oolspecific tool=\"desk\" version=\"1\"/>") (space (spell (bytes "</transition>") (turn (addTransition x (a + 65536))))))
+    (spell (bytes "/transition>") (turn (addTransition x a))) s d
+    (piece-rest (bytes "<toolspecific tool=\"desk\" version=\"1\"/>") _ _ d (space-absorbs _)
+    (space-rest 60 _ _ _ d refl (piece-rest (bytes "</transition>") ps (turn (addTransition x (a + 65536))) d (turn-absorbs _) h)) s q))
+
+transition-rest : (x : Drawing) (a : ℕ) (ps : List (List ℕ)) (d : Drawing) → length (x .arcs) ≡ 0 → a ≤ 131071 → Rest (turn (addTransition x a)) ps d
+    → Rest (turn x) (transitionPieces (length (x .actions)) a ++ ps) d
+unfolding transitionPieces
+transition-rest x a ps d e l h = by (ltb a 65536) refl
+  where
+    by : (t : Bool) → ltb a 65536 ≡ t → Rest (turn x) (cond t (pressedPieces (length (x .actions)) a) (optionalPieces (length (x .actions)) (a - 65536)) ++ ps) d
+    by true q = let b = ltb-true a 65536 q in pressed-rest x a ps d e (omega arith) h
+    by false q =
+        let b = ltb-false a 65536 q in
+        let same : a ≡ (a - 65536) + 65536 = omega arith in
+        optional-rest x (a - 65536) ps d e (omega arith) (subst (λ z. Rest (turn (addTransition x z)) ps d) same h)
 
 -- ---- an arc
 
@@ -227,14 +288,14 @@ arcs-rest M A (a ∷ l) ps d g h =
     (ltb-true (a .transition) (length A) (and-right (ltb (a .place) (length M)) (ltb (a .transition) (length A)) here))
     (and-left (rises l a) (arcsGood (length M) (length A) l) rest) h))
 
-transitions-rest : (M l : List ℕ) (ps : List (List ℕ)) (d : Drawing) → atMost 65535 l ≡ true
+transitions-rest : (M l : List ℕ) (ps : List (List ℕ)) (d : Drawing) → atMost 131071 l ≡ true
     → Rest (turn (drawing M l [])) ps d → Rest (turn (drawing M [] [])) (transitions l ++ ps) d
 unfolding transitions atMost
 transitions-rest M [] ps d g h = h
 transitions-rest M (a ∷ l) ps d g h =
     subst (λ q. Rest (turn (drawing M [] [])) q d) (sym (append-assoc (transitions l) (transitionPieces (length l) a) ps))
-    (transitions-rest M l (transitionPieces (length l) a ++ ps) d (and-right (leb a 65535) (atMost 65535 l) g)
-    (transition-rest (drawing M l []) a ps d refl (leb-true a 65535 (and-left (leb a 65535) (atMost 65535 l) g)) h))
+    (transitions-rest M l (transitionPieces (length l) a ++ ps) d (and-right (leb a 131071) (atMost 131071 l) g)
+    (transition-rest (drawing M l []) a ps d refl (leb-true a 131071 (and-left (leb a 131071) (atMost 131071 l) g)) h))
 
 places-rest : (l : List ℕ) (ps : List (List ℕ)) (d : Drawing) → atMost 1 l ≡ true
     → Rest (turn (drawing l [] [])) ps d → Rest (turn (drawing [] [] [])) (places l ++ ps) d
@@ -250,11 +311,11 @@ pub complete : (s : List ℕ) (d : Drawing) → Draws s d → Reads start s d
 unfolding good pieces openings start spell white
 complete s d h =
     let g = h .fine in
-    let more = and-right (atMost 1 (d .marks)) (atMost 65535 (d .actions) && arcsGood (length (d .marks)) (length (d .actions)) (d .arcs)) g in
+    let more = and-right (atMost 1 (d .marks)) (atMost 131071 (d .actions) && arcsGood (length (d .marks)) (length (d .actions)) (d .arcs)) g in
     let all : Rest (turn (drawing [] [] [])) (places (d .marks) ++ (transitions (d .actions) ++ (arcs (d .arcs) ++ closings))) d =
-    places-rest (d .marks) _ d (and-left (atMost 1 (d .marks)) (atMost 65535 (d .actions) && arcsGood (length (d .marks)) (length (d .actions)) (d .arcs)) g)
-    (transitions-rest (d .marks) (d .actions) _ d (and-left (atMost 65535 (d .actions)) (arcsGood (length (d .marks)) (length (d .actions)) (d .arcs)) more)
-    (arcs-rest (d .marks) (d .actions) (d .arcs) closings d (and-right (atMost 65535 (d .actions)) (arcsGood (length (d .marks)) (length (d .actions)) (d .arcs)) more)
+    places-rest (d .marks) _ d (and-left (atMost 1 (d .marks)) (atMost 131071 (d .actions) && arcsGood (length (d .marks)) (length (d .actions)) (d .arcs)) g)
+    (transitions-rest (d .marks) (d .actions) _ d (and-left (atMost 131071 (d .actions)) (arcsGood (length (d .marks)) (length (d .actions)) (d .arcs)) more)
+    (arcs-rest (d .marks) (d .actions) (d .arcs) closings d (and-right (atMost 131071 (d .actions)) (arcsGood (length (d .marks)) (length (d .actions)) (d .arcs)) more)
     (closing-rest d))) in
     piece-rest (bytes "<pnml xmlns=\"http://www.pnml.org/version-2009/grammar/pnml\">") _ _ d (space-absorbs _)
     (space-rest 60 _ _ _ d refl (piece-rest (bytes "<net id=\"n\" type=\"http://www.pnml.org/version-2009/grammar/ptnet\">") _ _ d (space-absorbs _)

@@ -8,16 +8,16 @@ use native.Mathlib.Nat.{le-refl}
 use native.Mathlib.Omega.{arith}
 use lib.ListN.{length, length-append}
 use lib.Dec.{eqb, ltb, leb}
-use borrow.Author.Tests.{eqb-true, lt-ltb, le-leb, ltb-true}
-use Rattle.tables.proofs.Tests.{and-left, and-right, and-intro}
+use borrow.Author.Tests.{eqb-true, lt-ltb, le-ltb, le-leb, ltb-true}
+use Rattle.tables.proofs.Tests.{and-left, and-right, and-intro, if-true, if-false}
 use Rattle.texts.specs.Text.{bytes, decimal}
-use Rattle.pnml_shape.specs.Drawing.{Arc, Drawing, openings, placePieces, transitionPieces, arcPiece, closings, places, transitions, arcs, pieces, rises, arcsGood, atMost, good}
+use Rattle.pnml_shape.specs.Drawing.{Arc, Drawing, openings, placePieces, pressedPieces, optionalPieces, transitionPieces, arcPiece, closings, places, transitions, arcs, pieces, rises, arcsGood, atMost, good}
 use Rattle.pnml_shape.specs.Shape.{white, allWhite, Spaced, Draws}
 use Rattle.pnml_shape.specs.Machine.{Format, ends, byte, space, either, number, turn, spell, addPlace, addTransition, addArc, placeFormat, transitionFormat, arcFormat, closing, least, arcOpen, preOpen, preFrom, preInto, postInto, opened, start, scan, drawn}
 use Rattle.pnml_shape.proofs.Scans.{Reads, anywhere, spell-on, spell-drawn, space-drawn, ends-drawn, turn-drawn, either-drawn}
 use Rattle.pnml_shape.proofs.Numbers.{number-drawn}
 use Rattle.pnml_shape.proofs.Arcs.{made, AtLeast, least-rises, pre-back, post-back}
-use Rattle.pnml_shape.proofs.Complete.{endsText, endsFormat, preEnds, postEnds, apart}
+use Rattle.pnml_shape.proofs.Complete.{afterName, namedPieces, endsText, endsFormat, preEnds, postEnds, apart}
 
 -- ---- spacings
 
@@ -126,9 +126,53 @@ place-taken x s d h =
           (last-taken 60 _ _ r9 _ d e9 g9))))),
     )
 
+-- what follows a transition's name: the entry, and the pieces that the transition has left
+abbrev Marked : (x : Drawing) (m : ℕ) (s : List ℕ) (d : Drawing) → Type 0
+Marked x m s d =
+    (a : ℕ) × (ps : List (List ℕ)) × (a ≤ 131071) × ((i : ℕ) → namedPieces i m ps ≡ transitionPieces i a) × Taken ps s (turn (addTransition x a)) d
+
+pressed-marked : (x : Drawing) (m : ℕ) (s : List ℕ) (d : Drawing) → m ≤ 65535 → Reads (spell (bytes "/transition>") (turn (addTransition x m))) s d
+    → Marked x m (60 ∷ s) d
+unfolding transitionPieces pressedPieces
+pressed-marked x m s d l h =
+    let (r, e, g) = spell-drawn (bytes "/transition>") (turn (addTransition x m)) s d h in (
+      m,
+      bytes "</transition>" ∷ [],
+      omega arith,
+      λ i. sym (if-true (ltb m 65536) (pressedPieces i m) (optionalPieces i (m - 65536)) (lt-ltb m 65536 (omega arith))),
+      last-taken 60 (bytes "/transition>") (60 ∷ s) r _ d (ap (λ z. 60 ∷ z) e) g,
+    )
+
+optional-marked : (x : Drawing) (m : ℕ) (s : List ℕ) (d : Drawing) → m ≤ 65535
+    → Reads (spell (bytes "oolspecific tool=\"desk\" version=\"1\"/>") (space (spell (bytes "</transition>") (turn (addTransition x (m + 65536)))))) s d
+    → Marked x m (60 ∷ 116 ∷ s) d
+unfolding transitionPieces optionalPieces
+optional-marked x m s d l h =
+    let (r1, e1, g1) = spell-drawn (bytes "oolspecific tool=\"desk\" version=\"1\"/>") _ s d h in
+    let (w, r2, k, f, i2) = space-drawn _ r1 d g1 in
+    let (r3, e3, g3) = spell-drawn (bytes "</transition>") (turn (addTransition x (m + 65536))) r2 d i2 in
+    let same : (m + 65536) - 65536 ≡ m = omega arith in (
+      m + 65536,
+      bytes "<toolspecific tool=\"desk\" version=\"1\"/>" ∷ bytes "</transition>" ∷ [],
+      omega arith,
+      λ i. sym (if-false (ltb (m + 65536) 65536) (pressedPieces i (m + 65536)) (optionalPieces i ((m + 65536) - 65536)) (le-ltb (m + 65536) 65536 (omega arith))
+          ∙ ap (λ n. optionalPieces i n) same),
+      first-taken _ w (60 ∷ 116 ∷ s) r1 r2 _ _ d (ap (λ z. 60 ∷ 116 ∷ z) e1) f k (last-taken 60 _ r2 r3 _ d e3 g3),
+    )
+
+marked : (x : Drawing) (m : ℕ) (s : List ℕ) (d : Drawing) → m ≤ 65535 → Reads (afterName x m) s d → Marked x m s d
+unfolding spell
+marked x m s d l h =
+    let (r, e, g) = spell-drawn (60 ∷ []) _ s d h in
+    subst (λ z. Marked x m z d) (sym e)
+    (⊎-elim
+    (λ f. let (q, i, k) = f .1 in subst (λ z. Marked x m (60 ∷ z) d) (sym i) (optional-marked x m q d l k))
+    (λ f. pressed-marked x m r d l f)
+    (either-drawn 116 true _ (spell (bytes "/transition>") (turn (addTransition x m))) r d g))
+
 transition-taken : (x : Drawing) (s : List ℕ) (d : Drawing) → Reads (transitionFormat x) s d
-    → (a : ℕ) × (a ≤ 65535) × Taken (transitionPieces (length (x .actions)) a) (60 ∷ 116 ∷ s) (turn (addTransition x a)) d
-unfolding transitionFormat transitionPieces spell
+    → (a : ℕ) × (a ≤ 131071) × Taken (transitionPieces (length (x .actions)) a) (60 ∷ 116 ∷ s) (turn (addTransition x a)) d
+unfolding transitionFormat spell
 transition-taken x s d h =
     let (n, r1, a, b, e1, g1) = number-split (bytes "<transition id=\"t") (bytes "\">") (length (x .actions)) (length (x .actions)) _ (60 ∷ 116 ∷ s) d
     (spell-on (bytes "<t") (transitionFormat x) s d h) in
@@ -137,18 +181,17 @@ transition-taken x s d h =
     let (w2, r4, k2, f2, i2) = space-drawn _ r3 d g3 in
     let (m, r5, a5, b5, e5, g5) = number-split (bytes "<text>") (bytes "</text>") 0 65535 _ r4 d i2 in
     let (w3, r6, k3, f3, i3) = space-drawn _ r5 d g5 in
-    let (r7, e7, g7) = spell-drawn (bytes "</name>") _ r6 d i3 in
-    let (w4, r8, k4, f4, i4) = space-drawn _ r7 d g7 in
-    let (r9, e9, g9) = spell-drawn (bytes "</transition>") (turn (addTransition x m)) r8 d i4 in
-    let same : n ≡ length (x .actions) = omega arith in (
-      m,
-      b5,
-      subst (λ i. Taken (transitionPieces i m) (60 ∷ 116 ∷ s) (turn (addTransition x m)) d) same
+    let (r7, e7, g7) = spell-drawn (bytes "</name>") (space (afterName x m)) r6 d i3 in
+    let (w4, r8, k4, f4, i4) = space-drawn (afterName x m) r7 d g7 in
+    let (v, ps, b9, same, t) = marked x m r8 d b5 i4 in
+    let here : n ≡ length (x .actions) = omega arith in (
+      v,
+      b9,
+      subst (λ qs. Taken qs (60 ∷ 116 ∷ s) (turn (addTransition x v)) d) (ap (λ i. namedPieces i m ps) here ∙ same (length (x .actions)))
           (first-taken _ w1 _ r1 r2 _ _ d e1 f1 k1
           (first-taken _ w2 _ r3 r4 _ _ d e3 f2 k2
           (first-taken _ w3 _ r5 r6 _ _ d e5 f3 k3
-          (first-taken _ w4 _ r7 r8 _ _ d e7 f4 k4
-          (last-taken 60 _ _ r9 _ d e9 g9))))),
+          (first-taken _ w4 _ r7 r8 _ _ d e7 f4 k4 t)))),
     )
 
 -- the ends of an arc: the arc, and what follows it
@@ -280,33 +323,33 @@ no-arcs P (a ∷ l) h =
 good-arcs : (x : Drawing) → good x ≡ true → arcsGood (length (x .marks)) (length (x .actions)) (x .arcs) ≡ true
 unfolding good
 good-arcs x h =
-    and-right (atMost 65535 (x .actions)) (arcsGood (length (x .marks)) (length (x .actions)) (x .arcs))
-    (and-right (atMost 1 (x .marks)) (atMost 65535 (x .actions) && arcsGood (length (x .marks)) (length (x .actions)) (x .arcs)) h)
+    and-right (atMost 131071 (x .actions)) (arcsGood (length (x .marks)) (length (x .actions)) (x .arcs))
+    (and-right (atMost 1 (x .marks)) (atMost 131071 (x .actions) && arcsGood (length (x .marks)) (length (x .actions)) (x .arcs)) h)
 
-good-actions : (x : Drawing) → good x ≡ true → atMost 65535 (x .actions) ≡ true
+good-actions : (x : Drawing) → good x ≡ true → atMost 131071 (x .actions) ≡ true
 unfolding good
 good-actions x h =
-    and-left (atMost 65535 (x .actions)) (arcsGood (length (x .marks)) (length (x .actions)) (x .arcs))
-    (and-right (atMost 1 (x .marks)) (atMost 65535 (x .actions) && arcsGood (length (x .marks)) (length (x .actions)) (x .arcs)) h)
+    and-left (atMost 131071 (x .actions)) (arcsGood (length (x .marks)) (length (x .actions)) (x .arcs))
+    (and-right (atMost 1 (x .marks)) (atMost 131071 (x .actions) && arcsGood (length (x .marks)) (length (x .actions)) (x .arcs)) h)
 
 good-marks : (x : Drawing) → good x ≡ true → atMost 1 (x .marks) ≡ true
 unfolding good
-good-marks x h = and-left (atMost 1 (x .marks)) (atMost 65535 (x .actions) && arcsGood (length (x .marks)) (length (x .actions)) (x .arcs)) h
+good-marks x h = and-left (atMost 1 (x .marks)) (atMost 131071 (x .actions) && arcsGood (length (x .marks)) (length (x .actions)) (x .arcs)) h
 
-good-made : (x : Drawing) → atMost 1 (x .marks) ≡ true → atMost 65535 (x .actions) ≡ true
+good-made : (x : Drawing) → atMost 1 (x .marks) ≡ true → atMost 131071 (x .actions) ≡ true
     → arcsGood (length (x .marks)) (length (x .actions)) (x .arcs) ≡ true → good x ≡ true
 unfolding good
-good-made x p q r = and-intro (atMost 1 (x .marks)) _ p (and-intro (atMost 65535 (x .actions)) _ q r)
+good-made x p q r = and-intro (atMost 1 (x .marks)) _ p (and-intro (atMost 131071 (x .actions)) _ q r)
 
 good-place : (x : Drawing) (m : ℕ) → good x ≡ true → m ≤ 1 → x .arcs ≡ [] → good (addPlace x m) ≡ true
 unfolding atMost arcsGood
 good-place x m h k e =
     good-made (addPlace x m) (and-intro (leb m 1) (atMost 1 (x .marks)) (le-leb m 1 k) (good-marks x h)) (good-actions x h) (rw e refl)
 
-good-transition : (x : Drawing) (a : ℕ) → good x ≡ true → a ≤ 65535 → x .arcs ≡ [] → good (addTransition x a) ≡ true
+good-transition : (x : Drawing) (a : ℕ) → good x ≡ true → a ≤ 131071 → x .arcs ≡ [] → good (addTransition x a) ≡ true
 unfolding atMost arcsGood
 good-transition x a h k e =
-    good-made (addTransition x a) (good-marks x h) (and-intro (leb a 65535) (atMost 65535 (x .actions)) (le-leb a 65535 k) (good-actions x h)) (rw e refl)
+    good-made (addTransition x a) (good-marks x h) (and-intro (leb a 131071) (atMost 131071 (x .actions)) (le-leb a 131071 k) (good-actions x h)) (rw e refl)
 
 good-arc : (x : Drawing) (a : Arc) → good x ≡ true → a .place < length (x .marks) → a .transition < length (x .actions) → rises (x .arcs) a ≡ true
     → good (addArc x a) ≡ true

@@ -17,7 +17,7 @@ use Rattle.pnml_shape.specs.Machine.{Format, ends, byte, space, either, 
 use Rattle.pnml_shape.proofs.Scans.{Reads, stopped≢drawn, anywhere, moved, spell-on, spell-drawn, space-off, either-second}
 use Rattle.pnml_shape.proofs.Numbers.{number-viable, digits-on}
 use Rattle.pnml_shape.proofs.Arcs.{made, pre-range, pre-into-range, post-range, post-into-range}
-use Rattle.pnml_shape.proofs.Complete.{closing-rest, preEnds, postEnds, endsFormat}
+use Rattle.pnml_shape.proofs.Complete.{closing-rest, afterName, preEnds, postEnds, endsFormat}
 
 -- a format that begins with a byte that passes a test
 pub record Begins (ok : ℕ → Bool) (F : Format) : Type 0 where
@@ -150,12 +150,31 @@ place-open x =
     space-open 60 (bytes "initialMarking>") _ refl (space-open 60 (bytes "text>") _ refl (number-open 0 1 60 (bytes "/text>") _ refl zero-le (λ m a b.
     space-open 60 (bytes "/initialMarking>") _ refl (space-open 60 (bytes "/place>") _ refl (turn-open (addPlace x m))))))))
 
+-- after a transition's name: its mark, or its end
+mark-open : (x : Drawing) (a : ℕ)
+    → Open (spell (bytes "oolspecific tool=\"desk\" version=\"1\"/>") (space (spell (bytes "</transition>") (turn (addTransition x a)))))
+unfolding solid white
+mark-open x a = spell-open (bytes "oolspecific tool=\"desk\" version=\"1\"/>") _ (space-open 60 (bytes "/transition>") _ refl (turn-open (addTransition x a)))
+
+after-name-open : (x : Drawing) (a : ℕ) → Open (afterName x a)
+unfolding Open spell step finish
+after-name-open x a =
+    (λ e. mark-open x (a + 65536), spell-open (bytes "/transition>") (turn (addTransition x a)) (turn-open (addTransition x a)), refl, λ at. refl)
+
+after-name-begins : (x : Drawing) (a : ℕ) → Begins solid (afterName x a)
+unfolding solid white
+after-name-begins x a = record { head = 60; next = _; is = refl; passes = refl }
+
+space-name-open : (x : Drawing) (a : ℕ) → Open (space (afterName x a))
+unfolding Open
+space-name-open x a = (after-name-begins x a, after-name-open x a)
+
 transition-open : (x : Drawing) → Open (transitionFormat x)
 unfolding transitionFormat solid plain white digit
 transition-open x =
     spell-open (bytes "ransition id=\"t") _ (number-open (length (x .actions)) (length (x .actions)) 34 (bytes ">") _ refl (le-refl _) (λ i p q.
     space-open 60 (bytes "name>") _ refl (space-open 60 (bytes "text>") _ refl (number-open 0 65535 60 (bytes "/text>") _ refl zero-le (λ m a b.
-    space-open 60 (bytes "/name>") _ refl (space-open 60 (bytes "/transition>") _ refl (turn-open (addTransition x m))))))))
+    space-open 60 (bytes "/name>") (space (afterName x m)) refl (space-name-open x m))))))
 
 pre-ends-open : (x : Drawing) (P T : ℕ) (l : Arc) → arcOpen P T l ≡ true → preOpen T l ≡ true → Open (preEnds x P T l)
 unfolding plain digit

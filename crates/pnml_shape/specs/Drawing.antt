@@ -1,5 +1,5 @@
--- What a PNML text draws, and the text of a drawing (document 02, F-1). Assumes nothing.
-use Prim.Native.Nat.{ℕ, _+_, _*_}
+-- What a PNML text draws, and the text of a drawing (document 02, F-1 and F-4). Assumes nothing.
+use Prim.Native.Nat.{ℕ, _+_, _-_, _*_}
 use mathlib.Core.Bool.{Bool, true, false, cond, _&&_, _||_}
 use mathlib.Core.List.{List, [], _∷_, _++_}
 use lib.ListN.{length}
@@ -12,8 +12,8 @@ pub record Arc : Type 0 where
   pub post : Bool
   pub place : ℕ
 
--- places by their marks, transitions by their actions, and arcs. Each list has the last one first: the number of an element is how many stand
--- after it in the list.
+-- places by their marks, transitions by their actions, and arcs. The action of an optional transition has 65,536 added, as if bytes 16 to 18 of its
+-- record were one number. Each list has the last one first: the number of an element is how many stand after it in the list.
 pub record Drawing : Type 0 where
   pub marks : List ℕ
   pub actions : List ℕ
@@ -38,15 +38,30 @@ placePieces i m =
     ∷ bytes "</place>"
     ∷ []
 
--- the transition with this number and action
-unfoldable pub transitionPieces : (number action : ℕ) → List (List ℕ)
-transitionPieces i a =
+-- the transition with this number and action, pressed
+unfoldable pub pressedPieces : (number action : ℕ) → List (List ℕ)
+pressedPieces i a =
     (bytes "<transition id=\"t" ++ (decimal i ++ bytes "\">"))
     ∷ bytes "<name>"
     ∷ (bytes "<text>" ++ (decimal a ++ bytes "</text>"))
     ∷ bytes "</name>"
     ∷ bytes "</transition>"
     ∷ []
+
+-- the same, optional
+unfoldable pub optionalPieces : (number action : ℕ) → List (List ℕ)
+optionalPieces i a =
+    (bytes "<transition id=\"t" ++ (decimal i ++ bytes "\">"))
+    ∷ bytes "<name>"
+    ∷ (bytes "<text>" ++ (decimal a ++ bytes "</text>"))
+    ∷ bytes "</name>"
+    ∷ bytes "<toolspecific tool=\"desk\" version=\"1\"/>"
+    ∷ bytes "</transition>"
+    ∷ []
+
+-- the transition with this number and this entry of a drawing
+unfoldable pub transitionPieces : (number entry : ℕ) → List (List ℕ)
+transitionPieces i a = cond (ltb a 65536) (pressedPieces i a) (optionalPieces i (a - 65536))
 
 -- the arc with this number
 unfoldable pub arcPiece : (number : ℕ) → Arc → List ℕ
@@ -106,6 +121,6 @@ unfoldable pub atMost : (bound : ℕ) → List ℕ → Bool
 atMost n [] = true
 atMost n (x ∷ l) = leb x n && atMost n l
 
--- marks 0 or 1, actions 0 to 65,535, good arcs
+-- marks 0 or 1, actions 0 to 65,535 and the same again for the optional transitions, good arcs
 unfoldable pub good : Drawing → Bool
-good d = atMost 1 (d .marks) && (atMost 65535 (d .actions) && arcsGood (length (d .marks)) (length (d .actions)) (d .arcs))
+good d = atMost 1 (d .marks) && (atMost 131071 (d .actions) && arcsGood (length (d .marks)) (length (d .actions)) (d .arcs))

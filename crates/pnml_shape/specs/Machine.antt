@@ -55,7 +55,9 @@ unfoldable pub transitionFormat : Drawing → Format
 transitionFormat d =
     spell (bytes "ransition id=\"t") (number (length (d .actions)) (length (d .actions)) (λ i.
     spell (bytes "\">") (space (spell (bytes "<name>") (space (spell (bytes "<text>") (number 0 65535 (λ a.
-    spell (bytes "</text>") (space (spell (bytes "</name>") (space (spell (bytes "</transition>") (turn (addTransition d a))))))))))))))
+    spell (bytes "</text>") (space (spell (bytes "</name>") (space (byte 60 (either 116 true
+    (spell (bytes "oolspecific tool=\"desk\" version=\"1\"/>") (space (spell (bytes "</transition>") (turn (addTransition d (a + 65536))))))
+    (spell (bytes "/transition>") (turn (addTransition d a))))))))))))))))
 
 -- the least arc above another, with so many places: at the next place, else at the first place of the post set or of the next transition
 unfoldable pub after : (places : ℕ) → Arc → Arc

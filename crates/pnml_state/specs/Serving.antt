@@ -10,7 +10,7 @@ use Rattle.bitset.specs.Sets.{add}
 use Rattle.pnml_shape.specs.Drawing.{Arc, Drawing}
 use Rattle.pnml_net.specs.Nets.{numbered, markingOf, setOf}
 
--- tables of 64 entries hold the sets and actions of a drawing; the sets do where it has at most 64 places
+-- tables of 64 numbers hold the sets and entries of a drawing's transitions; the sets do where it has at most 64 places
 pub record Holds (d : Drawing) (marking : ℕ) (pre post action : List ℕ) : Type 0 where
   pub pre-size : length pre ≡ 64
   pub post-size : length post ≡ 64

@@ -12,8 +12,8 @@ pub fn mark(marking: u64, places: usize, mark: usize) -> u64
     marking
 }
 
-// The action of a transition.
-pub fn note(actions: &mut [u16; 64], transition: usize, action: u16)
+// The entry of a transition: its action, and 65,536 more where it is optional.
+pub fn note(actions: &mut [u32; 64], transition: usize, action: u32)
     ensures { λ r. ⌜ now (actions .exit) ≡ serving.noted (now (actions .entry)) transition action ⌝ }
 {
     if transition < 64 {

@@ -171,7 +171,7 @@ module _ (t : List ℕ) (s : State) (pre post action : List ℕ) where
   recast r q e h = subst (λ x. Ahead t s x pre post action) e h
 
   -- an action fits its table, and an arc has a next one
-  pub action-small : (a k : ℕ) → Ahead t s (Transition a k) pre post action → a ≤ 65535
+  pub action-small : (a k : ℕ) → Ahead t s (Transition a k) pre post action → a ≤ 131071
   unfolding Sane
   action-small a k h = h .sane .2
 

@@ -28,7 +28,7 @@ turned d (Stop k) t = stopped k
 -- an element ends inside the text, not before an offset, and is one of so many places and transitions
 unfoldable pub Sane : (text : List ℕ) (from places transitions : ℕ) → Turn → Type 0
 Sane t from P T (Place m k) = (from ≤ k) × (k ≤ length t) × (m ≤ 1)
-Sane t from P T (Transition a k) = (from ≤ k) × (k ≤ length t) × (a ≤ 65535)
+Sane t from P T (Transition a k) = (from ≤ k) × (k ≤ length t) × (a ≤ 131071)
 Sane t from P T (Into i p k) = (from ≤ k) × (k ≤ length t) × (p < P) × (i < T)
 Sane t from P T (OutOf i p k) = (from ≤ k) × (k ≤ length t) × (p < P) × (i < T)
 Sane t from P T End = Unit

@@ -9,7 +9,7 @@ ghost use Rattle.pnml_scan.specs.Serving as scans;
 ghost use Rattle.pnml_turn.specs.Serving as serving;
 use pnml_scan::Arc;
 
-// One turn: an element and the offset after it (a place with its mark, a transition with its action, an arc into a transition from a place
+// One turn: an element and the offset after it (a place with its mark, a transition with its entry, an arc into a transition from a place
 // or out of it), the end of the text, or the offset where it leaves the shape.
 pub enum Turn {
     Place(usize, usize),
@@ -268,7 +268,7 @@ fn apply(
     turn: Turn,
     pre: &mut [u64; 64],
     post: &mut [u64; 64],
-    action: &mut [u16; 64],
+    action: &mut [u32; 64],
 ) -> State
     requires { ⌜ serving.Ahead (now text) s turn (now pre) (now post) (now action) ⌝ }
     ensures { λ r. ⌜ serving.Moved (now (text .entry)) s r (now (pre .exit)) (now (post .exit)) (now (action .exit)) ⌝ }
@@ -279,7 +279,7 @@ fn apply(
             s.place(marking, at)
         }
         Turn::Transition(value, at) => {
-            pnml_state::note(action, s.transitions, value as u16);
+            pnml_state::note(action, s.transitions, value as u32);
             s.transition(at)
         }
         Turn::Into(transition, place, at) => {
@@ -309,7 +309,7 @@ fn advance(
     s: State,
     pre: &mut [u64; 64],
     post: &mut [u64; 64],
-    action: &mut [u16; 64],
+    action: &mut [u32; 64],
 ) -> State
     requires { ⌜ serving.Read (now text) s (now pre) (now post) (now action) × (s .going ≡ true) ⌝ }
     ensures { λ r. ⌜ serving.Moved (now (text .entry)) s r (now (pre .exit)) (now (post .exit)) (now (action .exit)) ⌝ }
@@ -353,14 +353,14 @@ fn begin(at: usize) -> State
     }
 }
 
-// Reads the elements of a text, which follow its opening, and its end. The lent tables, all zero, get the sets and the actions of at most 64
+// Reads the elements of a text, which follow its opening, and its end. The lent tables, all zero, get the sets and the entries of at most 64
 // transitions.
 pub fn read_elements(
     text: &[u8],
     at: usize,
     pre: &mut [u64; 64],
     post: &mut [u64; 64],
-    action: &mut [u16; 64],
+    action: &mut [u32; 64],
 ) -> Reading
     requires { ⌜ scans.Opened (now text) true at ⌝ }
     requires { ⌜ (now pre ≡ serving.noEntry) × (now post ≡ serving.noEntry) × (now action ≡ serving.noEntry) ⌝ }

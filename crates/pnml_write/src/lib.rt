@@ -27,7 +27,7 @@ pub fn write(places: u32, marking: u64, net: &[u8], room: &mut [u8]) -> Written
     if let Checked::Refused(why) = net::check_load(places, marking, net) {
         return Written::Refused(why);
     }
-    if 159 + 71 * (places as usize) + 5569 * (net.len() / net::RECORD) <= room.len() {
+    if 159 + 71 * (places as usize) + 5608 * (net.len() / net::RECORD) <= room.len() {
         return Written::Length(pnml_put::text(room, places, marking, net));
     }
     if room.len() < pnml_length::text_length(places, marking, net) {

@@ -5,7 +5,7 @@ ghost use lib.Seq.{sets};
 ghost use Rattle.sample_nets.specs.Tables as tables;
 use net::Checked;
 
-// A transition record.
+// The record of a pressed transition.
 pub fn transition(pre: u64, post: u64, action: u16) -> [u8; 24]
     ensures { λ r. ⌜ r ≡ tables.transition pre post action ⌝ }
 {
@@ -13,6 +13,18 @@ pub fn transition(pre: u64, post: u64, action: u16) -> [u8; 24]
     sample_bytes::put_number(&mut record, 0, 8, pre);
     sample_bytes::put_number(&mut record, 8, 8, post);
     sample_bytes::put_number(&mut record, 16, 2, action as u64);
+    record
+}
+
+// That of an optional one.
+pub fn optional(pre: u64, post: u64, action: u16) -> [u8; 24]
+    ensures { λ r. ⌜ r ≡ tables.optional pre post action ⌝ }
+{
+    let mut record = [0u8; 24];
+    sample_bytes::put_number(&mut record, 0, 8, pre);
+    sample_bytes::put_number(&mut record, 8, 8, post);
+    sample_bytes::put_number(&mut record, 16, 2, action as u64);
+    sample_bytes::put_number(&mut record, 18, 1, 1);
     record
 }
 
@@ -32,6 +44,15 @@ pub fn net_r() -> [u8; 72]
     put_transition(&mut table, 0, 1, 1, 1);
     put_transition(&mut table, 1, 2, 4, 2);
     put_transition(&mut table, 2, 4, 0, 3);
+    table
+}
+
+// Net R with transition t optional.
+pub fn net_optional(t: u8) -> [u8; 72]
+    ensures { λ r. ⌜ r ≡ tables.optionalR t ⌝ }
+{
+    let mut table = net_r();
+    sample_bytes::put_number(&mut table, t as usize * 24 + 18, 1, 1);
     table
 }
 

@@ -10,7 +10,7 @@ use Rattle.walk.specs.declared.Walk.{Walk}
 use Rattle.walk.specs.State.{empty}
 use Rattle.walk.specs.Calls.{loadWalk, loadedAnswer, readMarking, readCount, readNext}
 use Rattle.walk.specs.History.{Call, load, fire, reset, called, fireAll}
-use Rattle.sample_nets.specs.Tables.{transition, netR}
+use Rattle.sample_nets.specs.Tables.{transition, netR, optionalR}
 use Rattle.sample_walks.specs.declared.Hand.{Hand}
 use Rattle.sample_walks.specs.declared.Seen.{Seen}
 use Rattle.sample_walks.specs.declared.Fields.{Fields}
@@ -32,6 +32,7 @@ byHand h =
       pre = 1 ∷ 2 ∷ h .pre ∷ replicate 61 0;
       post = 1 ∷ h .post ∷ replicate 62 0;
       action = 1 ∷ 2 ∷ 3 ∷ replicate 61 0;
+      optional = h .optional;
       start = h .start;
       present = h .present;
       count = h .count;
@@ -49,7 +50,7 @@ started (ByHand h) = byHand h
 unfoldable pub callOf : ℕ → Call
 callOf n =
     cond (eqb n 64) reset
-    (cond (eqb n 65) (load 3 3 netR) (cond (eqb n 66) (load 3 8 netR) (cond (eqb n 67) (load 2 1 (transition 1 2 7)) (fire n))))
+    (cond (eqb n 65) (load 3 3 netR) (cond (eqb n 66) (load 3 8 netR) (cond (eqb n 67) (load 2 1 (transition 1 2 7)) (cond (eqb n 68) (load 3 3 (optionalR 1)) (fire n)))))
 
 -- call n of a list of calls by number; a firing of transition 0 past its end
 unfoldable pub callAt : List ℕ → ℕ → Call

@@ -9,7 +9,7 @@ use walk::Outcome;
 use walk::Walk;
 
 // A call is a number: below 64 it fires that transition; the others are these. R is loaded with 3 places, at marking 3 or beyond the
-// places, and 1→2 with 2 places at marking 1.
+// places, 1→2 with 2 places at marking 1, and R with t1 optional as R at marking 3.
 pub const RESET: u32 = 64;
 
 pub const LOAD_R: u32 = 65;
@@ -18,12 +18,15 @@ pub const LOAD_BEYOND: u32 = 66;
 
 pub const LOAD_FORWARD: u32 = 67;
 
+pub const LOAD_OPTIONAL: u32 = 68;
+
 // The fields of a walk filled in by hand. Its other fields are net R's; `pre` is the pre set of t2, `post` the post set of t1.
 pub struct Hand {
     pub places: u32,
     pub transitions: u32,
     pub pre: u64,
     pub post: u64,
+    pub optional: u64,
     pub start: u64,
     pub present: u64,
     pub count: u32,
@@ -65,6 +68,7 @@ fn call(walk: Walk, number: u32) -> Outcome
         LOAD_R => walk.load(3, 3, &net),
         LOAD_BEYOND => walk.load(3, 8, &net),
         LOAD_FORWARD => walk.load(2, 1, &sample_nets::transition(1, 2, 7)),
+        LOAD_OPTIONAL => walk.load(3, 3, &sample_nets::net_optional(1)),
         _ => walk.fire(number),
     }
 }
@@ -107,6 +111,7 @@ fn by_hand(hand: Hand) -> Walk
     walk.action[0] = 1;
     walk.action[1] = 2;
     walk.action[2] = 3;
+    walk.optional = hand.optional;
     walk.start = hand.start;
     walk.present = hand.present;
     walk.count = hand.count;
@@ -203,4 +208,12 @@ pub fn carried(start: Start, list: &[u32], n: usize, t: usize) -> Fields
         post: walk.post[t],
         action: walk.action[t],
     }
+}
+
+// The optional transitions that the walk carries after the first n calls of a list.
+pub fn optional(start: Start, list: &[u32], n: usize) -> u64
+    ensures { λ r. ⌜ r ≡ samples.after start (now (list .entry)) n .optional ⌝ }
+{
+    let walk = after(start, list, n);
+    walk.optional
 }

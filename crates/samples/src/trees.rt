@@ -8,6 +8,7 @@ use crate::lines::number;
 use crate::lines::print;
 use sample_bytes::put_bytes;
 use sample_bytes::put_number;
+use sample_nets::net_optional;
 use sample_nets::net_r;
 use sample_nets::transition;
 use sample_trees::ask;
@@ -90,20 +91,117 @@ fn with_transition(t: u8, pre: u64, post: u64, action: u16) {
     tell_net(net);
 }
 
-// R with a byte of its net that is 1.
-fn with_net_byte(at: usize) {
+// R with another byte in its net.
+fn with_net_byte(at: usize, value: u64) {
     print(b"R, net, byte");
     number(at as u64);
+    number(value);
     let mut net = net_r();
-    put_number(&mut net, at, 1, 1);
+    put_number(&mut net, at, 1, value);
     tell_net(net);
 }
 
 fn nets() {
     with_transition(0, 8, 1, 1); // pre set beyond the places
     with_transition(2, 4, 8, 3); // post set beyond the places
-    with_net_byte(18); // the first spare byte of t0
-    with_net_byte(47); // the last spare byte of t1
+    with_net_byte(18, 2); // the mark of t0, above 1
+    with_net_byte(42, 255); // the mark of t1, above 1
+    with_net_byte(19, 1); // the first spare byte of t0
+    with_net_byte(23, 1); // the last spare byte of t0
+    with_net_byte(47, 1); // the last spare byte of t1
+}
+
+// ---- optional transitions
+
+// R with transition t optional, its tree, and the tree that shows "fails 2" by the loop of t0, its node 1 keeping some.
+fn with_optional(t: u8, kept: u64, last: u64) {
+    print(b"R, optional");
+    number(t as u64);
+    tell_net(net_optional(t));
+    print(b"R, optional");
+    number(t as u64);
+    print(b", fails 2, keeping");
+    number(kept);
+    number(last);
+    tell(
+        &ask(3, 2, 3, 1),
+        &net_optional(t),
+        &formulas_r(),
+        &tree_fails(3, kept, last),
+    );
+}
+
+// Puts three nodes, the first of them node k.
+fn put_three(tree: &mut [u8], k: u8, a: [u8; 40], b: [u8; 40], c: [u8; 40]) {
+    let at = k as usize * 40;
+    put_bytes(tree, at, &a);
+    put_bytes(tree, at + 40, &b);
+    put_bytes(tree, at + 80, &c);
+}
+
+// The tree for "R with t0 optional holds 2" over a net: as R's, but t1 alone is kept, and there is one round.
+fn tree_optional(net: &[u8]) {
+    let mut tree = [0u8; 600];
+    put_three(
+        &mut tree,
+        0,
+        node(3, 0, 0, 0, 1, 2, 3, 6, 0, 0, 0, 0),
+        node(3, 0, 0, 0, 0, 0, 0, 15, 0, 0, 0, 0),
+        node(3, 0, 0, 0, 4, 2, 1, 7, 0, 0, 0, 0),
+    );
+    put_three(
+        &mut tree,
+        3,
+        node(5, 0, 0, 0, 5, 2, 1, 5, 0, 0, 0, 0),
+        node(3, 3, 2, 2, 6, 2, 1, 8, 0, 1, 1, 0),
+        node(5, 0, 0, 3, 7, 1, 1, 2, 0, 0, 0, 2),
+    );
+    put_three(
+        &mut tree,
+        6,
+        node(3, 3, 2, 4, 8, 2, 3, 9, 0, 2, 0, 0),
+        node(1, 0, 0, 5, 0, 0, 0, 15, 0, 0, 0, 0),
+        node(3, 0, 0, 6, 0, 0, 0, 15, 0, 0, 0, 0),
+    );
+    put_three(
+        &mut tree,
+        9,
+        node(3, 3, 2, 6, 11, 2, 1, 11, 0, 2, 0, 0),
+        node(5, 3, 0, 6, 12, 2, 1, 10, 0, 2, 0, 0),
+        node(3, 3, 2, 9, 13, 2, 1, 14, 0, 3, 0, 0),
+    );
+    put_three(
+        &mut tree,
+        12,
+        node(5, 0, 0, 10, 14, 1, 1, 2, 0, 0, 0, 2),
+        node(3, 3, 2, 11, 0, 2, 0, 17, 0, 1, 0, 0),
+        node(1, 0, 0, 12, 0, 0, 0, 15, 0, 0, 0, 0),
+    );
+    tell(&ask(3, 2, 3, 0), net, &formulas_r(), &tree);
+}
+
+// The transition 1→0 with this mark at marking 1, and "fails 2" by rule 29: nothing pressed is enabled, and the right fails.
+fn waiting(mark: u64) {
+    print(b"1->0, mark");
+    number(mark);
+    let mut net = transition(1, 0, 1);
+    put_number(&mut net, 18, 1, mark);
+    let mut tree = [0u8; 80];
+    put_bytes(&mut tree, 0, &node(1, 0, 0, 0, 1, 2, 1, 29, 1, 0, 0, 0));
+    put_bytes(&mut tree, 40, &node(1, 0, 0, 0, 0, 1, 0, 24, 1, 0, 0, 0));
+    tell(&ask(1, 2, 1, 1), &net, &formulas_r(), &tree);
+}
+
+fn optionals() {
+    with_optional(1, 1, 0);
+    with_optional(1, 3, 2); // t1 kept too
+    with_optional(0, 2, 2);
+    print(b"R, optional 0, holds 2, 15 nodes");
+    tree_optional(&net_optional(0));
+    print(b"R, holds 2, 15 nodes");
+    tree_optional(&net_r());
+    waiting(1);
+    waiting(0);
 }
 
 // R's tree over another table of formulas.
@@ -425,6 +523,7 @@ pub(crate) fn print_all() {
     starred();
     asks();
     nets();
+    optionals();
     formulas();
     sizes();
     many();

@@ -3,6 +3,7 @@
 use crate::lines::end;
 use crate::lines::number;
 use crate::names::print_name;
+use sample_nets::net_optional;
 use sample_nets::net_r;
 use sample_nets::put_transition;
 use sample_nets::transition;
@@ -121,9 +122,40 @@ fn spare() {
     firing(b"spare byte:", 0, 2, 1, &net, 0);
 }
 
+// R with a byte of t1's record other than zero, t1 fired.
+fn firing_byte(names: &[u8], i: u32, byte: u8, value: u64) {
+    let mut net = net_r();
+    sample_bytes::put_number(&mut net, 24 + byte as usize, 1, value);
+    firing(names, i, 3, 3, &net, 1);
+}
+
+// The mark of t1 and the spare bytes after it; R with t1 optional fires and conflicts as R does.
+fn marks() {
+    let names: &[u8] = b"R, t1 optional, fire 0:\n\
+        R, t1 optional, fire 1:\n\
+        R, t1 optional, fire 2:\n\
+        R, t1 optional, decoded, t1:\n\
+        R, t1, byte 18 is 1:\n\
+        R, t1, byte 18 is 2:\n\
+        R, t1, byte 18 is 255:\n\
+        R, t1, byte 19 is 1:\n\
+        R, t1, byte 23 is 1:\n";
+    let net = net_optional(1);
+    firing(names, 0, 3, 3, &net, 0);
+    firing(names, 1, 3, 3, &net, 1);
+    firing(names, 2, 3, 3, &net, 2);
+    conflicts(names, 3, 3, &net, 1);
+    firing_byte(names, 4, 18, 1);
+    firing_byte(names, 5, 18, 2);
+    firing_byte(names, 6, 18, 255);
+    firing_byte(names, 7, 19, 1);
+    firing_byte(names, 8, 23, 1);
+}
+
 // All samples of nets.
 pub(crate) fn print_all() {
     starred();
     answers();
     spare();
+    marks();
 }

@@ -9,6 +9,7 @@ use sample_nets::net_r;
 use sample_walks::Hand;
 use sample_walks::LOAD_BEYOND;
 use sample_walks::LOAD_FORWARD;
+use sample_walks::LOAD_OPTIONAL;
 use sample_walks::LOAD_R;
 use sample_walks::RESET;
 use sample_walks::Seen;
@@ -198,6 +199,7 @@ fn good() -> Hand {
         transitions: 3,
         pre: 4,
         post: 4,
+        optional: 0,
         start: 3,
         present: 5,
         count: 1,
@@ -328,6 +330,71 @@ fn any_set() {
     each_call(names, 3, full);
 }
 
+// ---- the optional transitions
+
+// Prints the optional transitions that the walk carries after the first n calls of a list.
+fn optional(names: &[u8], i: u32, calls: &[u32], n: usize) {
+    begin(names, i);
+    number(sample_walks::optional(Start::New, calls, n));
+    end();
+}
+
+// R with t1 optional: the walk carries the mark through firings, resets and refused loads, and answers as it does for R.
+fn marked() {
+    let names: &[u8] = b"load R, t1 optional:\n\
+        R, t1 optional, carried:\n\
+        R, t1 optional, read:\n\
+        R, t1 optional, fire 1:\n\
+        R, t1 optional, fire 1, read:\n\
+        R, t1 optional, fire 1, carried:\n\
+        R, t1 optional, reset, carried:\n\
+        R, t1 optional, refused load, carried:\n\
+        R over R, t1 optional, carried:\n\
+        unloaded, carried:\n";
+    let calls: &[u32] = &[LOAD_OPTIONAL, 1, RESET, LOAD_BEYOND, LOAD_R];
+    answer(names, 0, Start::New, calls, 0);
+    optional(names, 1, calls, 1);
+    reading(names, 2, Start::New, calls, 1);
+    answer(names, 3, Start::New, calls, 1);
+    reading(names, 4, Start::New, calls, 2);
+    optional(names, 5, calls, 2);
+    optional(names, 6, calls, 3);
+    optional(names, 7, calls, 4);
+    optional(names, 8, calls, 5);
+    optional(names, 9, calls, 0);
+}
+
+// Any set of optional transitions, with bits beyond the transitions too, gets the same answers.
+fn any_marks() {
+    let names: &[u8] = b"by hand, all optional:\n\
+        by hand, t1 optional:\n\
+        by hand, no places, all optional:\n";
+    let mut hand = good();
+    hand.optional = 18446744073709551615;
+    each_call(names, 0, hand);
+    hand.optional = 2;
+    each_call(names, 1, hand);
+    hand.optional = 18446744073709551615;
+    hand.places = 0;
+    each_call(names, 2, hand);
+}
+
+// What loading R with the mark of t2 or its last spare byte changed answers.
+fn marks_refused() {
+    let names: &[u8] = b"load, mark of t2 is 2:\n\
+        load, byte 23 of t2 is 1:\n\
+        load, mark of t2 is 1:\n";
+    let mut net = net_r();
+    net[66] = 2;
+    loading(names, 0, 3, 3, &net);
+    net[66] = 0;
+    net[71] = 1;
+    loading(names, 1, 3, 3, &net);
+    net[66] = 1;
+    net[71] = 0;
+    loading(names, 2, 3, 3, &net);
+}
+
 // ---- the full count
 
 // 65,535 firings of t0 of R: then 42, but 8 and 41 come before it.
@@ -381,5 +448,8 @@ pub(crate) fn print_all() {
     wrong_set();
     set_by_number();
     any_set();
+    marked();
+    any_marks();
+    marks_refused();
     full();
 }

@@ -146,6 +146,48 @@ fn actions() {
     draft(1, 0, action, b"<");
 }
 
+// The tag of an optional transition: after the name, with white space after it, and in a whole text.
+fn tags() {
+    let name: &[u8] = b"<transition id=\"t0\"><name><text>7</text></name>";
+    draft(
+        1,
+        0,
+        name,
+        b"<toolspecific tool=\"desk\" version=\"1\"/></transition>",
+    );
+    draft(
+        1,
+        0,
+        name,
+        b"<toolspecific tool=\"desk\" version=\"1\"/> \t</transition>",
+    );
+    let tail: &[u8] = b"</page></net></pnml>";
+    let whole: &[u8] = b"<transition id=\"t0\"><name><text>7</text></name>\
+        <toolspecific tool=\"desk\" version=\"1\"/></transition>";
+    named(1, 0, whole, tail, tail, 1600);
+}
+
+// The tag where it may not stand, or another one.
+fn wrong_tags() {
+    let tag: &[u8] = b"<toolspecific tool=\"desk\" version=\"1\"/>";
+    let name: &[u8] = b"<transition id=\"t0\"><name><text>7</text></name>";
+    draft(1, 0, b"<transition id=\"t0\">", tag);
+    draft(1, 0, b"<transition id=\"t0\"><name>", tag);
+    draft(1, 0, b"<transition id=\"t0\"><name><text>7</text>", tag);
+    draft(1, 1, b"", tag);
+    draft(
+        1,
+        0,
+        b"<transition id=\"t0\"><name><text>7</text></name><toolspecific tool=\"desk\" version=\"1\"/>",
+        tag,
+    );
+    draft(1, 0, name, b"<toolspecific  tool=\"desk\" version=\"1\"/>");
+    draft(1, 0, name, b"<toolspecific tool=\"desk\" version=\"2\"/>");
+    draft(1, 0, name, b"<toolspecific tool=\"desk\" version=\"1\" />");
+    draft(1, 0, name, b"<transition id=\"t1\">");
+    draft(1, 0, name, b"<t");
+}
+
 // Arcs where there are few places and transitions.
 fn arcs() {
     let none: &[u8] = b"";
@@ -244,6 +286,8 @@ pub(crate) fn print_all() {
     marks();
     places();
     actions();
+    tags();
+    wrong_tags();
     arcs();
     later_pre();
     later_post();

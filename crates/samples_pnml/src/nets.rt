@@ -7,7 +7,9 @@ use crate::calls::show;
 use crate::calls::write;
 use crate::calls::write_in;
 use crate::lines::FILL;
+use sample_nets::net_optional;
 use sample_nets::net_r;
+use sample_nets::optional;
 use sample_nets::transition;
 
 // All places of 64.
@@ -27,14 +29,14 @@ fn small(name: &[u8], places: u32, marking: u64, net: &[u8]) {
     back(name, &text, n, net);
 }
 
-// R's text with white space after each tag but `<text>`.
-fn spaced(net: &[u8], text: &[u8]) {
+// A text of R with white space after each tag but `<text>`.
+fn spaced(name: &[u8], net: &[u8], text: &[u8]) {
     if 2000 < text.len() {
         return;
     }
     let mut wide = [FILL; 2000];
     let m = sample_pnml::put_spaced(&mut wide, text);
-    back(b"R at 3, white space", &wide, m, net);
+    back(name, &wide, m, net);
 }
 
 // R's text, of n bytes, without its last byte, and with a byte after it.
@@ -58,8 +60,20 @@ fn changed() {
     let net = net_r();
     let mut text = [FILL; 1000];
     let n = write(b"R at 3", 3, 3, &net, &mut text);
-    spaced(&net, first(&text, n));
+    spaced(b"R at 3, white space", &net, first(&text, n));
     ends(&net, &mut text, n);
+}
+
+// R with t1 optional, with white space, and with just the room.
+fn with_tag() {
+    let net = net_optional(1);
+    let name: &[u8] = b"R at 3, t1 optional";
+    small(name, 3, 3, &net);
+    let mut text = [FILL; 1000];
+    let n = write(name, 3, 3, &net, &mut text);
+    spaced(b"R at 3, t1 optional, white space", &net, first(&text, n));
+    write_in(name, 3, 3, &net, &mut text, 777);
+    write_in(name, 3, 3, &net, &mut text, 778);
 }
 
 // The largest net: its text.
@@ -81,10 +95,10 @@ fn largest_room(net: &[u8], n: usize) {
     write_in(b"largest net, just room", 64, ALL, net, &mut text, n);
 }
 
-// The largest net.
+// The largest net: all transitions are optional.
 pub(crate) fn largest() {
     let mut net = [0u8; 1536];
-    sample_pnml::put_often(&mut net, &transition(ALL, ALL, 65535), 64);
+    sample_pnml::put_often(&mut net, &optional(ALL, ALL, 65535), 64);
     let n = largest_text(&net);
     largest_room(&net, n);
 }
@@ -94,4 +108,5 @@ pub(crate) fn print_all() {
     small(b"R at 3", 3, 3, &net_r());
     small(b"smallest net", 1, 0, &transition(0, 0, 0));
     changed();
+    with_tag();
 }

@@ -93,6 +93,13 @@ first-none f (suc n) p =
     ap (λ b. cond b 0 (suc (first (λ i. f (suc i)) n))) (p 0 (suc-le-suc zero-le))
     ∙ ap suc (first-none (λ j. f (suc j)) n (λ k l. p (suc k) (suc-le-suc l)))
 
+-- tests that agree below n have the same first
+pub first-ext : (f g : ℕ → Bool) (n : ℕ) → ((k : ℕ) → k < n → f k ≡ g k) → first f n ≡ first g n
+unfolding first
+first-ext f g zero h = refl
+first-ext f g (suc n) h =
+    ap₂ (λ b (k : ℕ). cond b 0 (suc k)) (h 0 (suc-le-suc zero-le)) (first-ext (λ i. f (suc i)) (λ i. g (suc i)) n (λ k l. h (suc k) (suc-le-suc l)))
+
 -- a loop that found none below i, with i not below n
 pub first-out : (f : ℕ → Bool) (n i : ℕ) → n ≤ i → ((k : ℕ) → k < i → f k ≡ false) → first f n ≡ n
 first-out f n i h p = first-none f n (λ k l. p k (lt-of-lt-of-le l h))

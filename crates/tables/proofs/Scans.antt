@@ -13,7 +13,7 @@ use Rattle.tables.specs.Lists.{first}
 use Rattle.tables.specs.Sizes.{sized, recordsOf}
 use Rattle.tables.specs.Faults.{Fault, noFault, fault, scanFault}
 use Rattle.tables.proofs.Counts.{whole-sized, whole-count, refused-sized}
-use Rattle.tables.proofs.Entries.{before-first}
+use Rattle.tables.proofs.Entries.{first-ext, before-first}
 
 module _ (sn rn size least most : ℕ) (bad : ℕ → Bool) (len : ℕ) where
   pub scan-size : recordsOf size least most len ≡ Refused → fault sn 0 ≡ scanFault sn rn size least most bad len
@@ -58,3 +58,10 @@ module _ (sn rn size least most : ℕ) (bad : ℕ → Bool) (len : ℕ) where
   scan-passed p q e =
       let r : (sized size least most len ≡ true) × (ltb (first bad (len / size)) (len / size) ≡ false) = passes _ _ (first bad (len / size)) p q e in
       (r .0, λ k h. before-first bad (len / size) k (le-trans h (ltb-false (first bad (len / size)) (len / size) (r .1))))
+
+-- tests that agree on the records of a table find the same fault
+pub scan-ext : (sn rn size least most : ℕ) (bad worse : ℕ → Bool) (len : ℕ) → ((k : ℕ) → k < len / size → bad k ≡ worse k)
+    → scanFault sn rn size least most bad len ≡ scanFault sn rn size least most worse len
+unfolding scanFault
+scan-ext sn rn size least most bad worse len h =
+    ap (λ (b : ℕ). cond (sized size least most len) (cond (ltb b (len / size)) (fault rn b) noFault) (fault sn 0)) (first-ext bad worse (len / size) h)

@@ -13,7 +13,7 @@ use Rattle.tables.proofs.Tests.{and-left, and-right, and-intro, either, if-true
 use Rattle.bitset.proofs.Relations.{within-member, member-within}
 use Rattle.tables.specs.Sizes.{sized}
 use Rattle.net.specs.Step.{preOf, postOf, firedBy, enabled, fired}
-use Rattle.net.specs.Table.{preAt, postAt, spareAt, transitions, netOf, placesGood, tableSized, recordBad}
+use Rattle.net.specs.Table.{preAt, postAt, markAt, spareAt, transitions, netOf, placesGood, tableSized, recordBad}
 use Rattle.tables.specs.Lists.{first}
 use Rattle.tables.specs.Faults.{scanFault}
 use Rattle.net.specs.Answer.{noFault, fault, orElse, tableFault, loadFault}
@@ -94,9 +94,10 @@ module _ (places m : ℕ) (bytes : List ℕ) (e : noFault ≡ loadFault places m
   record-within : (t : ℕ) → t < transitions bytes → (within places (preAt bytes t) ≡ true) × (within places (postAt bytes t) ≡ true)
   unfolding recordBad
   record-within t l =
-      let good = not-false (within places (preAt bytes t) && within places (postAt bytes t) && eqb (spareAt bytes t) 0)
+      let good = not-false (within places (preAt bytes t) && within places (postAt bytes t) && leb (markAt bytes t) 1 && eqb (spareAt bytes t) 0)
       (load-passed places m bytes e .2 t l) in
-      let sets = and-left (within places (preAt bytes t) && within places (postAt bytes t)) (eqb (spareAt bytes t) 0) good in
+      let marked = and-left (within places (preAt bytes t) && within places (postAt bytes t) && leb (markAt bytes t) 1) (eqb (spareAt bytes t) 0) good in
+      let sets = and-left (within places (preAt bytes t) && within places (postAt bytes t)) (leb (markAt bytes t) 1) marked in
       (and-left (within places (preAt bytes t)) (within places (postAt bytes t)) sets, and-right (within places (preAt bytes t)) (within places (postAt bytes t)) sets)
 
   entry-within : (t : ℕ) → t < transitions bytes → setsWithin places (netOf places bytes .pre) (netOf places bytes .post) t ≡ true

@@ -20,9 +20,9 @@ use Rattle.net.specs.Table.{netOf}
 use Rattle.net.specs.Sequence.{after}
 use Rattle.net.proofs.Loops.{next-member, enabled-out}
 use Rattle.walk.specs.declared.Walk.{Walk}
-use Rattle.walk.specs.State.{netIn, startedAt, movedTo, empty, storing, StoresNext, loaded}
-use Rattle.walk.specs.Calls.{granted, loadAnswer, loadWalk, fireAnswer, fireWalk, loadedAnswer, resetWalk, readMarking, readCount}
-use Rattle.walk.specs.History.{Call, answered, called, run, Log, noCalls, logged, since, Follows, OffersSteps, LeavesNext, AnyStored, fireAll, allGranted}
+use Rattle.walk.specs.State.{netIn, startedAt, movedTo, empty, storing, marked, StoresNext, loaded}
+use Rattle.walk.specs.Calls.{granted, loadAnswer, loadWalk, fireAnswer, fireWalk, loadedAnswer, resetWalk, readMarking, readCount, readNext}
+use Rattle.walk.specs.History.{Call, answered, called, run, Log, noCalls, logged, since, Follows, OffersSteps, LeavesNext, AnyStored, AnyMarks, fireAll, allGranted}
 use Rattle.walk.specs.History.Call.{load, fire, reset}
 use Rattle.walk.proofs.Walks.{read-granted}
 use Rattle.walk.proofs.Conditions.{new-unloaded, grants-where, fire-needs, fire-grants, load-loaded, fire-loaded, run-loaded}
@@ -183,6 +183,36 @@ module _ (w : Walk) (n : ℕ) where
         marking = refl;
         count = refl;
         told = λ h. sym (read-granted (storing w n) h .3);
+      }
+
+-- ---- the optional transitions
+
+module _ (w : Walk) (n : ℕ) where
+  unmoved : (c : Call) → answered (marked w n) c ≡ answered w c
+  unfolding answered fireAnswer loadedAnswer loaded netIn enabled marked
+  unmoved (load places m bytes) = refl
+  unmoved (fire t) = refl
+  unmoved reset = refl
+
+  -- a call that moves the walk, or leaves it, does so with other marks too
+  either-way : (b : Bool) (m k : ℕ) → cond b (movedTo (marked w n) m k) (marked w n) ≡ marked (cond b (movedTo w m k) w) n
+  unfolding movedTo netIn next enabled marked
+  either-way true m k = refl
+  either-way false m k = refl
+
+  pub any-marks : AnyMarks w n
+  unfolding loadWalk fireWalk resetWalk readMarking readCount readNext fireAnswer loadedAnswer loaded netIn enabled fired marked
+  any-marks =
+      record {
+        condition = refl;
+        answer = unmoved;
+        loads = λ places m bytes h. if-true _ _ (marked w n) h ∙ sym (if-true _ _ w h);
+        stays = λ places m bytes h. if-false _ _ (marked w n) h;
+        fires = λ t. either-way (granted (fireAnswer w t)) (fired (netIn w) (w .present) t) (w .count + 1);
+        resets = either-way (granted (loadedAnswer w)) (w .start) 0;
+        marking = refl;
+        count = refl;
+        next = refl;
       }
 
 -- ---- firings one after the other

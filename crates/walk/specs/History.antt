@@ -14,7 +14,7 @@ use Rattle.net.specs.Table.{netOf}
 use Rattle.net.specs.Answer.{Fault}
 use Rattle.net.specs.Sequence.{after}
 use Rattle.walk.specs.declared.Walk.{Walk}
-use Rattle.walk.specs.State.{netIn, empty, storing, StoresNext, loaded}
+use Rattle.walk.specs.State.{netIn, empty, storing, marked, StoresNext, loaded}
 use Rattle.walk.specs.Calls.{granted, loadAnswer, loadWalk, fireAnswer, fireWalk, loadedAnswer, resetWalk, readMarking, readCount, readNext}
 
 pub data Call : Type 0 where
@@ -94,6 +94,21 @@ pub record AnyStored (w : Walk) (n : ℕ) : Type 0 where
   pub marking : readMarking (storing w n) ≡ readMarking w
   pub count : readCount (storing w n) ≡ readCount w
   pub told : loaded w ≡ true → readNext (storing w n) ≡ n
+
+-- ---- the optional transitions, of a walk in any condition
+
+-- nothing depends on the set n of optional transitions: not whether the walk is loaded, no call's answer, not what is read; a granted load leaves
+-- that of its table, and any other call leaves n and, beside it, what it would have left
+pub record AnyMarks (w : Walk) (n : ℕ) : Type 0 where
+  pub condition : loaded (marked w n) ≡ loaded w
+  pub answer : (c : Call) → answered (marked w n) c ≡ answered w c
+  pub loads : (places m : ℕ) (bytes : List ℕ) → granted (loadAnswer places m bytes) ≡ true → loadWalk (marked w n) places m bytes ≡ loadWalk w places m bytes
+  pub stays : (places m : ℕ) (bytes : List ℕ) → granted (loadAnswer places m bytes) ≡ false → loadWalk (marked w n) places m bytes ≡ marked w n
+  pub fires : (t : ℕ) → fireWalk (marked w n) t ≡ marked (fireWalk w t) n
+  pub resets : resetWalk (marked w n) ≡ marked (resetWalk w) n
+  pub marking : readMarking (marked w n) ≡ readMarking w
+  pub count : readCount (marked w n) ≡ readCount w
+  pub next : readNext (marked w n) ≡ readNext w
 
 -- ---- firings alone
 

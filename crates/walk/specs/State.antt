@@ -15,7 +15,7 @@ use Rattle.walk.specs.declared.Walk.{Walk}
 
 -- the net that a walk carries
 unfoldable pub netIn : Walk → Net
-netIn w = record { places = w .places; transitions = w .transitions; pre = w .pre; post = w .post; action = w .action }
+netIn w = record { places = w .places; transitions = w .transitions; pre = w .pre; post = w .post; action = w .action; optional = w .optional }
 
 -- a walk that carries the net N, started at the marking m: no firing yet
 unfoldable pub startedAt : Net → ℕ → Walk
@@ -26,6 +26,7 @@ startedAt N m =
       pre = N .pre;
       post = N .post;
       action = N .action;
+      optional = N .optional;
       start = m;
       present = m;
       count = 0;
@@ -41,6 +42,7 @@ movedTo w m n =
       pre = w .pre;
       post = w .post;
       action = w .action;
+      optional = w .optional;
       start = w .start;
       present = m;
       count = n;
@@ -56,6 +58,7 @@ empty =
       pre = replicate 64 0;
       post = replicate 64 0;
       action = replicate 64 0;
+      optional = 0;
       start = 0;
       present = 0;
       count = 0;
@@ -71,10 +74,27 @@ storing w n =
       pre = w .pre;
       post = w .post;
       action = w .action;
+      optional = w .optional;
       start = w .start;
       present = w .present;
       count = w .count;
       next = n;
+    }
+
+-- the walk with another set of optional transitions
+unfoldable pub marked : Walk → ℕ → Walk
+marked w n =
+    record {
+      places = w .places;
+      transitions = w .transitions;
+      pre = w .pre;
+      post = w .post;
+      action = w .action;
+      optional = n;
+      start = w .start;
+      present = w .present;
+      count = w .count;
+      next = w .next;
     }
 
 -- the stored set is that of the transitions enabled at the present marking

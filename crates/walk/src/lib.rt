@@ -12,14 +12,15 @@ use net::Refusal;
 // The most firings that a walk counts.
 const MOST: u32 = 65535;
 
-// A walk by value. Being loaded is a condition of the fields (`loaded` of specs/); entries from transitions on are not looked at. `next` is the stored
-// set: load, fire and reset leave Next there, and only read looks at it.
+// A walk by value. Being loaded is a condition of the fields (`loaded` of specs/); entries and bits from transitions on are not looked at. No call's
+// answer depends on `optional`. `next` is the stored set: load, fire and reset leave Next there, and only read looks at it.
 pub struct Walk {
     pub places: u32,
     pub transitions: u32,
     pub pre: [u64; 64],
     pub post: [u64; 64],
     pub action: [u16; 64],
+    pub optional: u64,
     pub start: u64,
     pub present: u64,
     pub count: u32,
@@ -116,6 +117,7 @@ impl Walk {
             pre: [0u64; 64],
             post: [0u64; 64],
             action: [0u16; 64],
+            optional: 0,
             start: 0,
             present: 0,
             count: 0,
@@ -145,6 +147,7 @@ impl Walk {
             pre,
             post,
             action,
+            optional: decoded.optional,
             start: marking,
             present: marking,
             count: 0,

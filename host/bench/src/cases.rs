@@ -29,7 +29,7 @@ impl Bench {
 /// A name and what makes the case.
 type Named = (&'static str, fn() -> Bench);
 
-pub const CASES: [Named; 25] = [
+pub const CASES: [Named; 28] = [
     ("tree: R, 23 nodes", || tree_bench(families::r_holds())),
     ("tree: trail of 32767", || {
         tree_bench(families::trail_chain(32_767))
@@ -84,6 +84,15 @@ pub const CASES: [Named; 25] = [
         let last = text.len() - 1;
         text[last] = b' ';
         read_bench(text)
+    }),
+    ("tree: optional rings", || {
+        tree_bench(families::optional_rings())
+    }),
+    ("pnml: write 64 optional", || {
+        write_bench(64, 5, optional_net())
+    }),
+    ("pnml: read 64 optional", || {
+        read_bench(text(64, 5, &optional_net()))
     }),
 ];
 
@@ -199,12 +208,21 @@ fn label_bench(translation: Vec<u8>, house: Vec<u8>, action: u16) -> Bench {
 
 /// A net of 64 places and transitions, with all arcs of the first transitions.
 pub fn net_of(full: usize) -> Vec<u8> {
+    encode::net(&transitions_of(full))
+}
+
+/// The same without arcs, all transitions optional.
+fn optional_net() -> Vec<u8> {
+    encode::marked_net(&transitions_of(0), u64::MAX)
+}
+
+fn transitions_of(full: usize) -> Vec<Transition> {
     let transition = |t: usize| Transition {
         pre: if t < full { u64::MAX } else { 0 },
         post: if t < full { u64::MAX } else { 0 },
         action: 1000 * t as u16,
     };
-    encode::net(&(0..64).map(transition).collect::<Vec<_>>())
+    (0..64).map(transition).collect()
 }
 
 /// The most bytes of a written text.

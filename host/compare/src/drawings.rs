@@ -22,6 +22,11 @@ impl Answer {
     pub fn number(&self) -> u32 {
         self.numbers[0] as u32
     }
+
+    /// What stands at the start of the room.
+    pub fn written(&self) -> &[u8] {
+        &self.room[..self.length.min(self.room.len() as u64) as usize]
+    }
 }
 
 /// The answer in the form of the vectors.
@@ -30,10 +35,10 @@ impl std::fmt::Display for Answer {
         for number in &self.numbers {
             write!(out, "{number} ")?;
         }
-        let length = self.length.min(self.room.len() as u64) as usize;
-        let (written, rest) = self.room.split_at(length);
+        let written = self.written();
+        let rest = &self.room[written.len()..];
         write!(out, "{}", hex(written))?;
-        match self.length > length as u64 || rest.iter().any(|&b| b != FILL) {
+        match self.length > written.len() as u64 || rest.iter().any(|&b| b != FILL) {
             true => write!(out, " (length {}, rest {})", self.length, hex(rest)),
             false => Ok(()),
         }

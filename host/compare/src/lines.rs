@@ -18,7 +18,7 @@ pub fn hex(bytes: &[u8]) -> String {
     bytes.iter().map(|b| format!("{b:02x}")).collect()
 }
 
-fn bytes(hex: &str) -> Vec<u8> {
+pub fn bytes(hex: &str) -> Vec<u8> {
     if hex == "-" {
         return Vec::new();
     }
@@ -165,6 +165,9 @@ pub fn vectors(folder: &str) -> ExitCode {
         ("firing", "firings"),
         ("pnml_write", "pnml_write_1"),
         ("pnml_read", "pnml_read_1"),
+        ("tree", "trees_4"),
+        ("pnml_write", "pnml_write"),
+        ("pnml_read", "pnml_read"),
     ] {
         let path = format!("{folder}/{name}.txt");
         let text = std::fs::read_to_string(&path).expect("the vectors are readable");

@@ -2,10 +2,12 @@
 //!
 //! compare [CASES [SEED]]   generated cases (1,000,000 and seed 1 by default)
 //! compare vectors FOLDER   the archive against the vectors
+//! compare programs FOLDER BIN   the programs in BIN against the vectors
 //! compare replay FILE      lines as this program prints them for a difference
 
 mod drawings;
 mod lines;
+mod programs;
 mod tally;
 
 use std::process::ExitCode;
@@ -13,6 +15,7 @@ use std::time::Instant;
 
 use generate::cases::{Case, Generator, Kind, TreeCase};
 use generate::categories::LabelCase;
+use generate::encode::has_optional;
 use generate::firings::FiringCase;
 use generate::pnml::{ReadCase, WriteCase, read_case, write_case};
 use generate::prng::Prng;
@@ -33,12 +36,15 @@ fn main() -> ExitCode {
     let arguments: Vec<&str> = arguments.iter().map(String::as_str).collect();
     match arguments.as_slice() {
         ["vectors", folder] => lines::vectors(folder),
+        ["programs", folder, bin] => programs::vectors(folder, bin),
         ["replay", file] => lines::replay(file),
         [] => generated(1_000_000, 1),
         [cases] => generated(number(cases), 1),
         [cases, seed] => generated(number(cases), number(seed)),
         _ => {
-            eprintln!("compare [CASES [SEED]] | compare vectors FOLDER | compare replay FILE");
+            eprintln!(
+                "compare [CASES [SEED]] | compare vectors FOLDER | compare programs FOLDER BIN | compare replay FILE"
+            );
             ExitCode::from(2)
         }
     }
@@ -79,7 +85,7 @@ fn generated(cases: u64, seed: u64) -> ExitCode {
 fn compare_tree(tally: &mut Tally, kind: Kind, case: &TreeCase) {
     let expected = check::check(&case.ask, &case.net, &case.formulas, &case.tree).numbers();
     let found = archive::check(&case.ask, &case.net, &case.formulas, &case.tree);
-    tally.tree(kind, expected.0);
+    tally.tree(kind, has_optional(&case.net), expected.0);
     tally.answer(expected.0);
     if found != expected {
         tally.difference(size(case), || lines::tree(case, expected, found));
@@ -88,13 +94,20 @@ fn compare_tree(tally: &mut Tally, kind: Kind, case: &TreeCase) {
         tally.refused_valid += 1;
     }
     if expected.0 == 0 {
-        for record in case.tree.chunks_exact(NODE) {
-            let record = record.try_into().expect("a chunk is a record");
-            tally.rule(Node::read(record).rule);
-        }
+        count_rules(tally, case);
     }
     if expected.0 == 0 || found.0 == 0 {
         compare_meaning(tally, case, expected, found);
+    }
+}
+
+/// Counts the rules of an accepted tree.
+fn count_rules(tally: &mut Tally, case: &TreeCase) {
+    let net = net::Net::decode(case.ask[10].into(), &case.net).expect("an accepted net");
+    for record in case.tree.chunks_exact(NODE) {
+        let node = Node::read(record.try_into().expect("a chunk is a record"));
+        let optional = net.next(node.sequent.marking) & !net.pressed;
+        tally.rule(node.rule, optional != 0);
     }
 }
 
@@ -149,7 +162,7 @@ fn compare_firing(tally: &mut Tally, case: &FiringCase) {
         Err(refusal) => (refusal.number, refusal.record, 0),
     };
     let found = archive::fire(case.places, case.marking, &case.net, case.transition);
-    tally.firings += 1;
+    tally.firing(has_optional(&case.net), expected.0);
     tally.answer(expected.0);
     if found != expected {
         tally.difference(case.net.len(), || lines::firing(case, expected, found));
@@ -159,7 +172,7 @@ fn compare_firing(tally: &mut Tally, case: &FiringCase) {
 fn compare_write(tally: &mut Tally, case: &WriteCase) {
     let expected = drawings::reference_write(case);
     let found = drawings::archive_write(case);
-    tally.write(expected.number());
+    tally.write(expected.number(), has_optional(&case.net));
     if found != expected {
         tally.difference(case.net.len(), || lines::write(case, &expected, &found));
     }
@@ -168,7 +181,7 @@ fn compare_write(tally: &mut Tally, case: &WriteCase) {
 fn compare_read(tally: &mut Tally, case: &ReadCase) {
     let expected = drawings::reference_read(case);
     let found = drawings::archive_read(case);
-    tally.read(expected.number());
+    tally.read(expected.number(), has_optional(expected.written()));
     if found != expected {
         tally.difference(case.text.len(), || lines::read(case, &expected, &found));
     }

@@ -12,6 +12,10 @@ const ANSWERS: [u32; 19] = [
 const WRITES: [u32; 6] = [0, 1, 2, 3, 7, 12];
 const READS: [u32; 5] = [0, 1, 2, 12, 13];
 
+/// The rules that depend on what is pressed, all of which must occur in accepted
+/// trees at markings where an optional transition is enabled.
+const PRESSED: [u32; 6] = [6, 7, 9, 12, 29, 31];
+
 /// How many differences and contradictions are printed.
 const PRINTED: usize = 5;
 
@@ -52,6 +56,10 @@ impl Default for Counts {
 }
 
 impl Counts {
+    fn add(&mut self, number: u32) {
+        self.0[number as usize] += 1;
+    }
+
     fn text(&self, numbers: &[u32]) -> String {
         let count = |&n: &u32| format!("{n}:{}", self.0[n as usize]);
         numbers.iter().map(count).collect::<Vec<_>>().join(" ")
@@ -64,17 +72,57 @@ impl Counts {
     }
 }
 
+/// How many cases there were, and how many of them were granted.
+#[derive(Clone, Copy, Default)]
+struct Granted {
+    all: u64,
+    granted: u64,
+}
+
+impl Granted {
+    fn add(&mut self, answer: u32) {
+        self.all += 1;
+        self.granted += u64::from(answer == 0);
+    }
+}
+
+/// The same of all cases and of those with an optional transition.
+#[derive(Clone, Copy, Default)]
+struct Marked {
+    cases: Granted,
+    optional: Granted,
+}
+
+impl Marked {
+    fn add(&mut self, optional: bool, answer: u32) {
+        self.cases.add(answer);
+        if optional {
+            self.optional.add(answer);
+        }
+    }
+
+    fn print(&self, name: &str, granted: &str) {
+        println!(
+            "  {name}: {}, {granted} {}; with an optional transition {}, {granted} {}",
+            self.cases.all, self.cases.granted, self.optional.all, self.optional.granted
+        );
+    }
+}
+
 #[derive(Default)]
 pub struct Tally {
-    kinds: [u64; KINDS.len()],
-    accepted: [u64; KINDS.len()],
+    kinds: [Marked; KINDS.len()],
     pub label_pairs: u64,
     pub labels: u64,
-    pub firings: u64,
+    firings: Marked,
     rules: Counts,
+    /// The rules where an optional transition is enabled.
+    optional_rules: Counts,
     answers: Counts,
     writes: Counts,
+    optional_writes: Counts,
     reads: Counts,
+    optional_reads: Counts,
     pub evaluated: u64,
     pub unevaluated: u64,
     pub refused_valid: u64,
@@ -86,26 +134,40 @@ pub struct Tally {
 }
 
 impl Tally {
-    pub fn tree(&mut self, kind: Kind, answer: u32) {
+    pub fn tree(&mut self, kind: Kind, optional: bool, answer: u32) {
         let place = KINDS.iter().position(|k| k.0 == kind).expect("a kind");
-        self.kinds[place] += 1;
-        self.accepted[place] += u64::from(answer == 0);
+        self.kinds[place].add(optional, answer);
+    }
+
+    pub fn firing(&mut self, optional: bool, answer: u32) {
+        self.firings.add(optional, answer);
     }
 
     pub fn answer(&mut self, number: u32) {
-        self.answers.0[number as usize] += 1;
+        self.answers.add(number);
     }
 
-    pub fn write(&mut self, number: u32) {
-        self.writes.0[number as usize] += 1;
+    pub fn write(&mut self, number: u32, optional: bool) {
+        self.writes.add(number);
+        if optional {
+            self.optional_writes.add(number);
+        }
     }
 
-    pub fn read(&mut self, number: u32) {
-        self.reads.0[number as usize] += 1;
+    pub fn read(&mut self, number: u32, optional: bool) {
+        self.reads.add(number);
+        if optional {
+            self.optional_reads.add(number);
+        }
     }
 
-    pub fn rule(&mut self, number: u8) {
-        self.rules.0[usize::from(number)] += 1;
+    /// A rule of an accepted tree, at a marking where an optional transition is
+    /// enabled or not.
+    pub fn rule(&mut self, number: u8, optional: bool) {
+        self.rules.add(number.into());
+        if optional {
+            self.optional_rules.add(number.into());
+        }
     }
 
     pub fn difference(&mut self, size: usize, line: impl Fn() -> String) {
@@ -119,21 +181,28 @@ impl Tally {
     pub fn print(&self) {
         println!("cases by kind:");
         for (place, (_, name)) in KINDS.iter().enumerate() {
-            let (count, accepted) = (self.kinds[place], self.accepted[place]);
-            println!("  {name}: {count}, accepted {accepted}");
+            self.kinds[place].print(name, "accepted");
         }
         println!(
             "  category pairs: {}, labels found {}",
             self.label_pairs, self.labels
         );
-        println!("  single firings: {}", self.firings);
+        self.firings.print("single firings", "fired");
         println!("rules in accepted trees:");
-        let rule = |&r: &u8| format!("{r}:{}", self.rules.0[usize::from(r)]);
-        println!("  {}", RULES.iter().map(rule).collect::<Vec<_>>().join(" "));
+        println!("  {}", self.rules.text(&RULES.map(u32::from)));
+        println!(
+            "  with an optional transition enabled: {}",
+            self.optional_rules.text(&PRESSED)
+        );
         println!("answers:");
         println!("  {}", self.answers.text(&ANSWERS));
         println!("  nets written: {}", self.writes.text(&WRITES));
         println!("  texts read: {}", self.reads.text(&READS));
+        println!(
+            "  with an optional transition: written {}, read {}",
+            self.optional_writes.text(&[0]),
+            self.optional_reads.text(&[0])
+        );
         println!(
             "accepted trees with the meaning evaluated: {}, graph too large: {}",
             self.evaluated, self.unevaluated
@@ -160,8 +229,15 @@ impl Tally {
     }
 
     fn missing(&self) -> Vec<String> {
-        let rules = RULES.iter().filter(|&&r| self.rules.0[usize::from(r)] == 0);
-        let mut missing: Vec<String> = rules.map(|r| format!("rule {r}")).collect();
+        let mut missing = self.rules.missing("rule", &RULES.map(u32::from));
+        let optional = [
+            ("optional: rule", &self.optional_rules, &PRESSED[..]),
+            ("optional: writer's answer", &self.optional_writes, &[0]),
+            ("optional: reader's answer", &self.optional_reads, &[0]),
+        ];
+        for (name, counts, numbers) in optional {
+            missing.extend(counts.missing(name, numbers));
+        }
         missing.extend(self.answers.missing("answer", &ANSWERS));
         missing.extend(self.writes.missing("writer's answer", &WRITES));
         missing.extend(self.reads.missing("reader's answer", &READS));

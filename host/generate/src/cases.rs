@@ -15,7 +15,7 @@ use crate::layout::{Order, lay_out};
 use crate::mutate::mutate;
 use crate::prng::Prng;
 use crate::search::{Built, Model, Outcome, deviate, prove, swerve};
-use crate::settings::{formulas, setting};
+use crate::settings::{formulas, optional, setting};
 
 /// The four tables of a tree check.
 #[derive(Clone)]
@@ -104,7 +104,7 @@ impl Generator {
         let rng = &mut self.rng;
         let setting = setting(rng);
         let formulas = formulas(rng, &setting);
-        let net_bytes = encode::net(&setting.transitions);
+        let net_bytes = setting.net();
         let net = Net::decode(setting.places, &net_bytes).expect("a good net");
         let Some(model) = Model::new(net, formulas, setting.marking, MARKINGS) else {
             self.too_many_markings += 1;
@@ -257,9 +257,10 @@ fn random_bytes(rng: &mut Prng) -> TreeCase {
     case
 }
 
-/// The tree with a round of 64, mostly changed.
+/// The tree with a round of up to 64, mostly changed.
 fn full_round(rng: &mut Prng) -> TreeCase {
-    let mut case = families::full_round(rng.pick(&[1, 2, 63, 64, 64, 64]));
+    let count = rng.pick(&[1, 2, 63, 64, 64, 64]);
+    let mut case = families::marked_round(count, optional(rng, count));
     if rng.percent(60) {
         mutate(rng, &mut case);
     }

@@ -2,7 +2,7 @@
 
 use reference::check::{ASK, Ask, NODE, Node};
 use reference::formula::{FORMULA, Formula};
-use reference::net::TRANSITION;
+use reference::net::{MARK, TRANSITION, is_optional, members};
 
 #[derive(Clone, Copy, Debug, PartialEq, Eq)]
 pub struct Transition {
@@ -21,6 +21,18 @@ pub fn transition(t: &Transition) -> [u8; TRANSITION] {
 
 pub fn net(transitions: &[Transition]) -> Vec<u8> {
     transitions.iter().flat_map(transition).collect()
+}
+
+/// The net with these transitions optional.
+pub fn marked_net(transitions: &[Transition], optional: u64) -> Vec<u8> {
+    let mut table = net(transitions);
+    members(optional).for_each(|t| table[t * TRANSITION + MARK] = 1);
+    table
+}
+
+/// Whether a net's table has an optional transition.
+pub fn has_optional(net: &[u8]) -> bool {
+    net.chunks_exact(TRANSITION).any(is_optional)
 }
 
 pub fn formula(f: &Formula) -> [u8; FORMULA] {

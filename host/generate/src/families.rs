@@ -22,7 +22,7 @@ fn formula(operator: u8, left: u16, right: u16, action: u16) -> Formula {
     }
 }
 
-fn case(places: u8, net: &[Transition], formulas: &[Formula], nodes: &[Node]) -> TreeCase {
+fn case(places: u8, net: Vec<u8>, formulas: &[Formula], nodes: &[Node]) -> TreeCase {
     let root = &nodes[0].sequent;
     TreeCase {
         ask: encode::ask(&Ask {
@@ -31,7 +31,7 @@ fn case(places: u8, net: &[Transition], formulas: &[Formula], nodes: &[Node]) ->
             places,
             side: root.side,
         }),
-        net: encode::net(net),
+        net,
         formulas: encode::formulas(formulas),
         tree: encode::tree(nodes),
     }
@@ -67,28 +67,23 @@ pub fn formulas_r() -> [Formula; 3] {
 
 /// Net R, holds: the tree of 23 nodes.
 pub fn r_holds() -> TreeCase {
-    let model = model(3, &NET_R, &formulas_r(), 3);
+    let net = encode::net(&NET_R);
+    let model = model(3, &net, &formulas_r(), 3);
     let claim = Sequent {
         marking: 3,
         formula: 2,
         ..Sequent::default()
     };
-    tree_of(3, &NET_R, &model, claim, 0).expect("a small tree")
+    tree_of(3, net, &model, claim, 0).expect("a small tree")
 }
 
-fn model(places: u8, net: &[Transition], formulas: &[Formula], start: u64) -> Model {
-    let net = Net::decode(u32::from(places), &encode::net(net)).expect("a good net");
+fn model(places: u8, net: &[u8], formulas: &[Formula], start: u64) -> Model {
+    let net = Net::decode(u32::from(places), net).expect("a good net");
     Model::new(net, formulas.to_vec(), start, 100_000).expect("a small graph")
 }
 
 /// A tree for a true claim, if the search stays below 65,537 nodes.
-fn tree_of(
-    places: u8,
-    net: &[Transition],
-    model: &Model,
-    claim: Sequent,
-    seed: u64,
-) -> Option<TreeCase> {
+fn tree_of(places: u8, net: Vec<u8>, model: &Model, claim: Sequent, seed: u64) -> Option<TreeCase> {
     let mut rng = Prng::new(seed);
     match prove(model, &mut rng, claim, 65_536) {
         Outcome::Found(built) if built.len() <= 65_536 => {
@@ -136,12 +131,25 @@ fn loop_nodes(marking: u64, next: u64, kept: u64) -> [Node; 4] {
 
 /// Net R, fails, the last node keeping the given set.
 pub fn r_fails(kept: u64) -> TreeCase {
-    case(3, &NET_R, &formulas_r(), &loop_nodes(3, 3, kept))
+    case(
+        3,
+        encode::net(&NET_R),
+        &formulas_r(),
+        &loop_nodes(3, 3, kept),
+    )
+}
+
+/// Net R with t1 optional, fails: the same four nodes, which keep t0 alone and are
+/// right.
+pub fn r_optional() -> TreeCase {
+    let net = encode::marked_net(&NET_R, 1 << 1);
+    case(3, net, &formulas_r(), &loop_nodes(3, 1, 0))
 }
 
 /// Only place 0 and t0: the same four nodes, which are right.
 pub fn one_place() -> TreeCase {
-    case(1, &NET_R[..1], &formulas_r(), &loop_nodes(1, 1, 0))
+    let net = encode::net(&NET_R[..1]);
+    case(1, net, &formulas_r(), &loop_nodes(1, 1, 0))
 }
 
 /// A counter: each marking enables one transition, which adds one.
@@ -187,7 +195,7 @@ pub fn trail_chain(depth: usize) -> TreeCase {
         });
         nodes.push(leaf(marking));
     }
-    case(16, &counter(16), &formulas, &nodes)
+    case(16, encode::net(&counter(16)), &formulas, &nodes)
 }
 
 /// Operator 5 fails along `depth` firings of a loop, with no trail:
@@ -235,13 +243,20 @@ pub fn plain_chain(depth: usize) -> TreeCase {
     nodes.push(node(1, FAILS, parent, first + 3, 1, 21));
     nodes.push(node(0, HOLDS, first, 0, 0, 15));
     nodes.push(node(0, HOLDS, first + 1, 0, 0, 15));
-    case(1, &net, &formulas, &nodes)
+    case(1, encode::net(&net), &formulas, &nodes)
 }
 
 /// Rules 6, 7, 8 and 10 where `count` transitions are enabled at one marking,
 /// so that the round is `count`: 4 `count` + 2 nodes.
 pub fn full_round(count: usize) -> TreeCase {
+    marked_round(count, 0)
+}
+
+/// The same with these transitions optional: the round is the number of the others,
+/// of which there must be one.
+pub fn marked_round(count: usize, optional: u64) -> TreeCase {
     let set = u64::MAX >> (64 - count);
+    let pressed = set & !optional;
     let loop_at = |t: usize| Transition {
         pre: 1 << t,
         post: 1 << t,
@@ -260,14 +275,14 @@ pub fn full_round(count: usize) -> TreeCase {
     };
     let anchored = Sequent {
         anchor: set,
-        kept: set,
+        kept: pressed,
         phase: ANCHORED,
-        round: count as u8,
+        round: pressed.count_ones() as u8,
         ..plain
     };
     let outward = Sequent {
         phase: OUTWARD,
-        round: count as u8 - 1,
+        round: anchored.round.saturating_sub(1),
         ..anchored
     };
     let node = |sequent: Sequent, parent: usize, first: usize, rule: u8| Node {
@@ -289,13 +304,14 @@ pub fn full_round(count: usize) -> TreeCase {
             nodes.push(node(sequent, parent, first, rule));
         }
     }
-    case(count as u8, &net, &formulas, &nodes)
+    let net = encode::marked_net(&net, optional);
+    case(count as u8, net, &formulas, &nodes)
 }
 
 /// What a tree is to be found for: a formula holds or fails at a marking.
 struct Claim {
     places: u8,
-    net: Vec<Transition>,
+    net: Vec<u8>,
     formulas: Vec<Formula>,
     marking: u64,
     formula: u16,
@@ -311,7 +327,7 @@ impl Claim {
             side: self.side,
             ..Sequent::default()
         };
-        tree_of(self.places, &self.net, &model, claim, seed)
+        tree_of(self.places, self.net, &model, claim, seed)
     }
 
     fn push(&mut self, formula: Formula) -> u16 {
@@ -363,7 +379,7 @@ pub fn and_tree(levels: u32) -> TreeCase {
     formulas.push(formula(NOT, levels as u16 - 1, 0, 0));
     let claim = Claim {
         places: 3,
-        net: NET_R.to_vec(),
+        net: encode::net(&NET_R),
         formulas,
         marking: 3,
         formula: levels as u16,
@@ -380,7 +396,7 @@ fn wide_claim(width: usize, transitions: usize) -> Claim {
     };
     Claim {
         places: 32,
-        net: (0..transitions).map(transition).collect(),
+        net: encode::net(&(0..transitions).map(transition).collect::<Vec<_>>()),
         formulas: vec![
             formula(0, 0, 0, 0),
             formula(STEP, 0, 0, 9),
@@ -411,7 +427,7 @@ pub fn wide() -> TreeCase {
         .expect("the size is known")
 }
 
-fn rings_claim(sizes: &[usize], left: u16) -> Claim {
+fn rings_claim(sizes: &[usize], optional: u64, left: u16) -> Claim {
     let step = |from: usize, to: usize, action: u16| Transition {
         pre: 1 << from,
         post: 1 << to,
@@ -433,7 +449,7 @@ fn rings_claim(sizes: &[usize], left: u16) -> Claim {
     }
     Claim {
         places: used as u8,
-        net,
+        net: encode::marked_net(&net, optional),
         formulas: vec![
             formula(0, 0, 0, 0),
             formula(STEP, 0, 0, 3),
@@ -451,14 +467,23 @@ fn rings_claim(sizes: &[usize], left: u16) -> Claim {
 /// on all runs, `left` until action 3 is enabled. The rings can go round for
 /// ever, but the process stays enabled and independent of them.
 pub fn rings(sizes: &[usize], left: u16) -> Option<TreeCase> {
-    rings_claim(sizes, left).tree(0)
+    rings_claim(sizes, 0, left).tree(0)
 }
 
 /// A large tree of this kind, 56,303 nodes of 65,536; the rest is operator 2
 /// beside it.
 pub fn realistic() -> TreeCase {
-    rings_claim(&[6, 1], 0)
+    rings_claim(&[6, 1], 0, 0)
         .filled(56_303, 65_536, 1)
+        .tree(0)
+        .expect("the size is known")
+}
+
+/// Rings that are optional, so that the process alone is pressed: 53,635 nodes of
+/// 65,536; the rest as before.
+pub fn optional_rings() -> TreeCase {
+    rings_claim(&[3, 2, 1], 0b1111_1100, 0)
+        .filled(53_635, 65_536, 1)
         .tree(0)
         .expect("the size is known")
 }

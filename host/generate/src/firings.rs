@@ -2,7 +2,7 @@
 
 use reference::net::{TRANSITION, below};
 
-use crate::encode;
+use crate::mutate::change_mark;
 use crate::prng::Prng;
 use crate::settings::setting;
 
@@ -19,7 +19,7 @@ pub fn firing_case(rng: &mut Prng) -> FiringCase {
     let mut case = FiringCase {
         places: setting.places,
         marking: setting.marking,
-        net: encode::net(&setting.transitions),
+        net: setting.net(),
         transition: rng.below(count) as u32,
     };
     if rng.percent(30) {
@@ -34,7 +34,7 @@ pub fn firing_case(rng: &mut Prng) -> FiringCase {
 }
 
 fn change(rng: &mut Prng, case: &mut FiringCase, count: usize) {
-    match rng.below(9) {
+    match rng.below(11) {
         0 => case.places = rng.pick(&[0, 1, 63, 64, 65, 256, 257, 320, u32::MAX]),
         1 => case.places = case.places.wrapping_sub(1),
         2 => case.marking ^= 1 << rng.below(64),
@@ -53,6 +53,7 @@ fn change(rng: &mut Prng, case: &mut FiringCase, count: usize) {
             let extra = rng.pick(&[0, 0, 0, 1, 23]);
             case.net.resize(records * TRANSITION + extra, 0);
         }
+        8 | 9 => change_mark(rng, &mut case.net),
         _ => {
             let length = rng.below(case.net.len() + 1);
             case.net.truncate(length);

@@ -2,7 +2,7 @@
 
 use reference::check::NODE;
 use reference::formula::FORMULA;
-use reference::net::TRANSITION;
+use reference::net::{MARK, TRANSITION};
 use reference::rules::{RULES, used_for};
 
 use crate::cases::TreeCase;
@@ -28,7 +28,7 @@ const NODE_FIELDS: [Field; 12] = [
     MARKING, ANCHOR, KEPT, PARENT, FIRST, OF_FORMULA, CHILDREN, RULE, SIDE, PHASE, ROUND, CHOSEN,
 ];
 const ASK_FIELDS: [Field; 4] = [(0, 8), (8, 2), (10, 1), (11, 1)];
-const TRANSITION_FIELDS: [Field; 4] = [(0, 8), (8, 8), (16, 2), (18, 6)];
+const TRANSITION_FIELDS: [Field; 5] = [(0, 8), (8, 8), (16, 2), (MARK, 1), (MARK + 1, 5)];
 const FORMULA_FIELDS: [Field; 5] = [(0, 1), (1, 1), (2, 2), (4, 2), (6, 2)];
 
 /// Changes a case in one to three ways.
@@ -39,7 +39,7 @@ pub fn mutate(rng: &mut Prng, case: &mut TreeCase) {
 }
 
 fn mutate_once(rng: &mut Prng, case: &mut TreeCase) {
-    match rng.below(26) {
+    match rng.below(28) {
         0 => flip(rng, case),
         1 => resize(rng, case),
         2 => change_field(rng, &mut case.ask, 12, &ASK_FIELDS),
@@ -58,6 +58,7 @@ fn mutate_once(rng: &mut Prng, case: &mut TreeCase) {
         22 => change_one_set(rng, case),
         23 => change_root(rng, case),
         24 => root_in_phase(rng, case),
+        25 | 26 => change_mark(rng, &mut case.net),
         _ => change_table_size(rng, case),
     }
 }
@@ -410,6 +411,21 @@ fn drop_child(rng: &mut Prng, case: &mut TreeCase) {
         write(case, parent, FIRST, 0);
     }
     case.tree.truncate(last * NODE);
+}
+
+/// The mark of a transition, as it may be or not, or a spare byte.
+pub fn change_mark(rng: &mut Prng, net: &mut [u8]) {
+    let count = net.len() / TRANSITION;
+    if count == 0 {
+        return;
+    }
+    let record = rng.below(count) * TRANSITION;
+    match rng.below(6) {
+        0 => net[record + MARK] = 1,
+        1..=3 => net[record + MARK] ^= 1,
+        4 => net[record + MARK] = rng.pick(&[2, 3, 128, 255]),
+        _ => net[record + rng.between(MARK + 1, TRANSITION - 1)] = 1,
+    }
 }
 
 /// One place more or fewer in a set of the net, or two transitions swapped.

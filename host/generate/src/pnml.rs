@@ -1,11 +1,12 @@
 //! Nets to be written as PNML text, and texts to be read.
 
 use reference::net::{Net, TRANSITION, below};
-use reference::pnml_definition::{Arc, Drawing, HEAD, TAIL};
+use reference::pnml_definition::{Arc, Drawing, HEAD, OPTIONAL, TAIL};
 
 use crate::encode::{self, Transition};
 use crate::firings::firing_case;
 use crate::prng::Prng;
+use crate::settings::optional;
 
 /// A net with its marking, and the length of the room.
 #[derive(Clone, Debug, PartialEq, Eq)]
@@ -71,7 +72,7 @@ fn sized(rng: &mut Prng) -> WriteCase {
     WriteCase {
         places: places as u32,
         marking: rng.number() & all,
-        net: encode::net(&list),
+        net: encode::marked_net(&list, optional(rng, transitions)),
         room: 0,
     }
 }
@@ -123,7 +124,7 @@ pub fn read_case(rng: &mut Prng) -> ReadCase {
             change(rng, &mut text);
         }
     }
-    let room = room(rng, drawing.actions.len() * TRANSITION);
+    let room = room(rng, drawing.transitions.len() * TRANSITION);
     ReadCase { text, room }
 }
 
@@ -152,7 +153,9 @@ fn any_drawing(rng: &mut Prng) -> Drawing {
     let (places, transitions) = (count(rng), count(rng));
     let mut drawing = Drawing {
         marks: (0..places).map(|_| rng.percent(50)).collect(),
-        actions: (0..transitions).map(|_| action(rng).into()).collect(),
+        transitions: (0..transitions)
+            .map(|_| (action(rng).into(), rng.percent(40)))
+            .collect(),
         arcs: Vec::new(),
     };
     if places > 0 && transitions > 0 {
@@ -176,12 +179,13 @@ fn any_arc(rng: &mut Prng, places: usize, transitions: usize) -> Arc {
 
 /// One change of a drawing, with which it may be none that can be shown.
 fn redraw(rng: &mut Prng, drawing: &mut Drawing) {
-    let (places, transitions) = (drawing.marks.len(), drawing.actions.len());
+    let (places, transitions) = (drawing.marks.len(), drawing.transitions.len());
     let count = drawing.arcs.len();
     if count == 0 || rng.percent(15) {
         if transitions > 0 {
             let t = rng.below(transitions);
-            drawing.actions[t] = rng.pick(&[65_535, 65_536, 65_540, 70_000, 100_000, 655_350]);
+            drawing.transitions[t].0 =
+                rng.pick(&[65_535, 65_536, 65_540, 70_000, 100_000, 655_350]);
         }
         return;
     }
@@ -222,7 +226,7 @@ fn change(rng: &mut Prng, text: &mut Vec<u8>) {
         false => 0,
     };
     let at = start + rng.below(text.len() - start + 1);
-    match rng.below(14) {
+    match rng.below(16) {
         0 => text.truncate(at),
         1 if at < text.len() => text[at] = byte(rng),
         2 if at < text.len() => text[at] ^= 1 << rng.below(8),
@@ -236,6 +240,7 @@ fn change(rng: &mut Prng, text: &mut Vec<u8>) {
         }
         9 | 10 => add_space(rng, text, at),
         11 => change_pieces(rng, text, start, &[b"<"]),
+        12 | 13 => add_mark(rng, text),
         _ => change_pieces(rng, text, start, &ELEMENTS),
     }
 }
@@ -277,6 +282,32 @@ fn add_space(rng: &mut Prng, text: &mut Vec<u8>, at: usize) {
         false => rng.pick(b"\x0B\x0C\x00\x1F\x85\xA0"),
     };
     text.insert(at, space);
+}
+
+/// What could be taken for the tag of an optional transition.
+const NEARLY: [&str; 7] = [
+    "<toolspecific tool=\"desk\" version=\"2\"/>",
+    "<toolspecific tool=\"desk\" version=\"1\" />",
+    "<toolspecific tool=\"desk\" version=\"1\"></toolspecific>",
+    "<toolspecific  tool=\"desk\" version=\"1\"/>",
+    "<toolspecific version=\"1\" tool=\"desk\"/>",
+    "<toolspecific tool=\"Desk\" version=\"1\"/>",
+    "<t",
+];
+
+/// The tag of an optional transition, or nearly that, where it may stand and where
+/// it may not.
+fn add_mark(rng: &mut Prng, text: &mut Vec<u8>) {
+    let before = match rng.percent(50) {
+        true => "</name>",
+        false => rng.pick(&[OPTIONAL, "<name>", "</text>", "</transition>", ">"]),
+    };
+    let at = after(rng, text, before.as_bytes());
+    let tag = match rng.percent(60) {
+        true => OPTIONAL,
+        false => rng.pick(&NEARLY),
+    };
+    text.splice(at..at, tag.bytes());
 }
 
 /// Changes the digit at or after a position, or takes it out or adds one.

@@ -3,7 +3,7 @@
 use reference::formula::{ALL, AND, Formula, NOT, SOME, STEP};
 use reference::net::below;
 
-use crate::encode::Transition;
+use crate::encode::{self, Transition};
 use crate::prng::Prng;
 
 /// A net with a marking.
@@ -11,9 +11,18 @@ use crate::prng::Prng;
 pub struct Setting {
     pub places: u32,
     pub transitions: Vec<Transition>,
+    /// The set of the optional transitions.
+    pub optional: u64,
     pub marking: u64,
     /// An action that must come to an end on all runs, where there is one.
     pub goal: Option<u16>,
+}
+
+impl Setting {
+    /// The net's table.
+    pub fn net(&self) -> Vec<u8> {
+        encode::marked_net(&self.transitions, self.optional)
+    }
 }
 
 /// A net under construction on the places 0 to `used` - 1.
@@ -39,9 +48,23 @@ pub fn setting(rng: &mut Prng) -> Setting {
     };
     decorate(rng, &mut draft);
     let goal = (kind == ENDING).then_some(GOAL);
+    let setting = embed(rng, draft);
     Setting {
+        optional: optional(rng, setting.transitions.len()),
         goal,
-        ..embed(rng, draft)
+        ..setting
+    }
+}
+
+/// The optional ones of so many transitions: none, one, some or all.
+pub fn optional(rng: &mut Prng, count: usize) -> u64 {
+    let all = below(count as u32);
+    match rng.below(10) {
+        0 | 1 => 0,
+        2..=4 => 1 << rng.below(count),
+        5 | 6 => rng.number() & rng.number() & all,
+        7 | 8 => rng.number() & all,
+        _ => all,
     }
 }
 
@@ -337,6 +360,7 @@ fn embed(rng: &mut Prng, draft: Draft) -> Setting {
     Setting {
         places: places as u32,
         transitions: transitions.collect(),
+        optional: 0,
         marking: moved(draft.marking),
         goal: None,
     }

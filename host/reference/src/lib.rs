@@ -1,7 +1,7 @@
 //! An independent implementation of document 01: the single firing, the
 //! category files, the tree check, the program's line, and the meaning of
 //! formulas on the graph of reachable markings. Of document 02: nets as PNML
-//! text (F-1).
+//! text (F-1) and optional transitions (F-4).
 
 pub mod bytes;
 pub mod category;

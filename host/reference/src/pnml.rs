@@ -1,7 +1,7 @@
 //! Nets as PNML text: the writer, and the reader of texts of its shape.
 
 use crate::bytes::{u16_at, u64_at};
-use crate::net::{TRANSITION, loaded, members};
+use crate::net::{MARK, TRANSITION, is_optional, loaded, members};
 use crate::{Refusal, refused, refused_at};
 
 const OPENING: [&[u8]; 3] = [
@@ -10,6 +10,9 @@ const OPENING: [&[u8]; 3] = [
     b"<page id=\"g\">",
 ];
 const CLOSING: [&[u8]; 3] = [b"</page>", b"</net>", b"</pnml>"];
+
+/// Follows the name of an optional transition.
+const OPTIONAL: &[u8] = b"<toolspecific tool=\"desk\" version=\"1\"/>";
 
 /// The most places and transitions of a net.
 const MOST: usize = 64;
@@ -78,7 +81,11 @@ fn draw(places: u32, marking: u64, transitions: &[[u8; TRANSITION]], out: &mut i
         out.number(t);
         out.put(b"\"><name><text>");
         out.number(usize::from(u16_at(record, 16)));
-        out.put(b"</text></name></transition>");
+        out.put(b"</text></name>");
+        if is_optional(record) {
+            out.put(OPTIONAL);
+        }
+        out.put(b"</transition>");
     }
     draw_arcs(transitions, out);
     CLOSING.iter().for_each(|tag| out.put(tag));
@@ -128,6 +135,7 @@ struct Drawn {
     pre: [u64; MOST],
     post: [u64; MOST],
     action: [u16; MOST],
+    optional: [bool; MOST],
 }
 
 /// An arc from a place to a transition, or with `post` back.
@@ -146,9 +154,10 @@ impl Drawn {
         self.places += 1;
     }
 
-    fn add_transition(&mut self, action: usize) {
-        if let Some(entry) = self.action.get_mut(self.transitions) {
-            *entry = action as u16;
+    fn add_transition(&mut self, action: usize, optional: bool) {
+        if self.transitions < MOST {
+            self.action[self.transitions] = action as u16;
+            self.optional[self.transitions] = optional;
         }
         self.transitions += 1;
     }
@@ -285,16 +294,20 @@ impl Scan<'_> {
         Ok(mark)
     }
 
-    /// A transition: its action.
-    fn transition(&mut self, before: usize) -> Scanned<usize> {
+    /// A transition: its action, and whether it is optional.
+    fn transition(&mut self, before: usize) -> Scanned<(usize, bool)> {
         self.bytes(b"<transition id=\"t")?;
         self.count(before)?;
         self.tag(b"\">")?;
         self.tag(b"<name>")?;
         let action = self.text(usize::from(u16::MAX))?;
         self.tag(b"</name>")?;
+        let optional = self.rest().starts_with(&OPTIONAL[..2]);
+        if optional {
+            self.tag(OPTIONAL)?;
+        }
         self.tag(b"</transition>")?;
-        Ok(action)
+        Ok((action, optional))
     }
 
     /// An arc not below `least`.
@@ -349,6 +362,7 @@ impl Scan<'_> {
             pre: [0; MOST],
             post: [0; MOST],
             action: [0; MOST],
+            optional: [false; MOST],
         };
         OPENING.iter().try_for_each(|tag| self.tag(tag))?;
         while self.rest().starts_with(b"<p") {
@@ -356,8 +370,8 @@ impl Scan<'_> {
             drawn.add_place(mark);
         }
         while self.rest().starts_with(b"<t") {
-            let action = self.transition(drawn.transitions)?;
-            drawn.add_transition(action);
+            let (action, optional) = self.transition(drawn.transitions)?;
+            drawn.add_transition(action, optional);
         }
         self.arcs(&mut drawn)?;
         CLOSING.iter().try_for_each(|tag| self.tag(tag))?;
@@ -412,7 +426,8 @@ pub fn read(text: &[u8], room: &mut [u8]) -> Result<Read, Refusal> {
         record[0..8].copy_from_slice(&drawn.pre[t].to_le_bytes());
         record[8..16].copy_from_slice(&drawn.post[t].to_le_bytes());
         record[16..18].copy_from_slice(&drawn.action[t].to_le_bytes());
-        record[18..].fill(0);
+        record[MARK] = drawn.optional[t].into();
+        record[MARK + 1..].fill(0);
     }
     Ok(Read {
         places: drawn.places as u32,

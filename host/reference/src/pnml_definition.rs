@@ -1,16 +1,18 @@
-//! F-1's texts by their definition, slow and plain. Tests hold `pnml` against it.
+//! The texts of F-1 and F-4 by their definition, slow and plain. Tests hold `pnml` against it.
 
 use std::borrow::Cow;
 use std::cell::RefCell;
 use std::collections::HashMap;
 use std::sync::OnceLock;
 
-use crate::net::{Net, TRANSITION, members};
+use crate::net::{MARK, Net, TRANSITION, members};
 use crate::{Refusal, refused, refused_at};
 
 pub const HEAD: &str = "<pnml xmlns=\"http://www.pnml.org/version-2009/grammar/pnml\">\
     <net id=\"n\" type=\"http://www.pnml.org/version-2009/grammar/ptnet\"><page id=\"g\">";
 pub const TAIL: &str = "</page></net></pnml>";
+/// Follows the name of an optional transition.
+pub const OPTIONAL: &str = "<toolspecific tool=\"desk\" version=\"1\"/>";
 
 /// An arc from a place to a transition, or with `post` back, in the order of a text.
 #[derive(Clone, Copy, Debug, PartialEq, Eq, PartialOrd, Ord)]
@@ -34,7 +36,8 @@ impl Arc {
 #[derive(Clone, Debug, Default, PartialEq, Eq)]
 pub struct Drawing {
     pub marks: Vec<bool>,
-    pub actions: Vec<usize>,
+    /// The action of each transition, and whether it is optional.
+    pub transitions: Vec<(usize, bool)>,
     pub arcs: Vec<Arc>,
 }
 
@@ -50,8 +53,9 @@ fn transition_head(transition: usize) -> String {
     format!("<transition id=\"t{transition}\"><name><text>")
 }
 
-fn transition_end(action: usize) -> String {
-    format!("{action}</text></name></transition>")
+fn transition_end(action: usize, optional: bool) -> String {
+    let mark = if optional { OPTIONAL } else { "" };
+    format!("{action}</text></name>{mark}</transition>")
 }
 
 fn arc_head(arc: usize) -> String {
@@ -63,7 +67,9 @@ impl Drawing {
     pub fn of(net: &Net, marking: u64) -> Drawing {
         let mut drawing = Drawing {
             marks: (0..net.places).map(|p| marking >> p & 1 == 1).collect(),
-            actions: (0..net.count).map(|t| net.action[t].into()).collect(),
+            transitions: (0..net.count)
+                .map(|t| (net.action[t].into(), net.pressed >> t & 1 == 0))
+                .collect(),
             arcs: Vec::new(),
         };
         for transition in 0..net.count {
@@ -85,9 +91,9 @@ impl Drawing {
             text += &place_head(place);
             text += &place_end(mark.into());
         }
-        for (transition, &action) in self.actions.iter().enumerate() {
+        for (transition, &(action, optional)) in self.transitions.iter().enumerate() {
             text += &transition_head(transition);
-            text += &transition_end(action);
+            text += &transition_end(action, optional);
         }
         for (number, arc) in self.arcs.iter().enumerate() {
             text += &arc_head(number);
@@ -98,7 +104,7 @@ impl Drawing {
 
     /// The records of its transitions.
     fn records(&self) -> Vec<u8> {
-        let record = |(transition, &action): (usize, &usize)| {
+        let record = |(transition, &(action, optional)): (usize, &(usize, bool))| {
             let set = |post: bool| {
                 let mut arcs = self.arcs.clone();
                 arcs.retain(|arc| arc.transition == transition && arc.post == post);
@@ -108,16 +114,18 @@ impl Drawing {
             record.extend(set(true).to_le_bytes());
             record.extend((action as u16).to_le_bytes());
             record.resize(TRANSITION, 0);
+            record[MARK] = optional.into();
             record
         };
-        self.actions.iter().enumerate().flat_map(record).collect()
+        let transitions = self.transitions.iter().enumerate();
+        transitions.flat_map(record).collect()
     }
 
     /// Whether a text of the shape can show it.
     pub fn good(&self) -> bool {
         let inside =
-            |arc: &Arc| arc.place < self.marks.len() && arc.transition < self.actions.len();
-        self.actions.iter().all(|&action| action <= 65_535)
+            |arc: &Arc| arc.place < self.marks.len() && arc.transition < self.transitions.len();
+        self.transitions.iter().all(|t| t.0 <= 65_535)
             && self.arcs.iter().all(inside)
             && self.arcs.windows(2).all(|pair| pair[0] < pair[1])
     }
@@ -125,7 +133,7 @@ impl Drawing {
     /// All arcs that can be there, rising.
     pub fn possible(&self) -> Vec<Arc> {
         let mut arcs = Vec::new();
-        for transition in 0..self.actions.len() {
+        for transition in 0..self.transitions.len() {
             for post in [false, true] {
                 arcs.extend((0..self.marks.len()).map(|place| Arc {
                     transition,
@@ -147,7 +155,7 @@ impl Drawing {
 
     /// All that can follow: places, transitions, arcs, the tail.
     fn followers(&self) -> [Alike; 4] {
-        let (places, transitions) = (self.marks.len(), self.actions.len());
+        let (places, transitions) = (self.marks.len(), self.transitions.len());
         let when = |possible: bool, ends: fn() -> &'static [String]| match possible {
             true => Cow::Borrowed(ends()),
             false => Cow::Borrowed(&[] as &[String]),
@@ -176,7 +184,16 @@ fn place_ends() -> &'static [String] {
 
 fn transition_ends() -> &'static [String] {
     static ENDS: OnceLock<Vec<String>> = OnceLock::new();
-    ENDS.get_or_init(|| (0..=65_535).map(transition_end).collect())
+    ENDS.get_or_init(|| {
+        let ends = (0..2 * 65_536).map(end_of_number);
+        ends.map(|(action, optional)| transition_end(action, optional))
+            .collect()
+    })
+}
+
+/// The action and the mark of a transition's end with this number.
+fn end_of_number(number: usize) -> (usize, bool) {
+    (number / 2, number % 2 == 1)
 }
 
 /// Texts that begin alike.
@@ -203,8 +220,7 @@ fn most_common(ends: &[String], rest: &[u8]) -> Option<(usize, usize)> {
 type Known = HashMap<Vec<u8>, Option<(usize, usize)>>;
 
 thread_local! {
-    /// What `most_common` gives for the transitions' ends, which are many, and of
-    /// which none has more than 32 bytes.
+    /// What `most_common` gives for the transitions' ends, which are many.
     static KNOWN: RefCell<Known> = RefCell::default();
 }
 
@@ -221,7 +237,7 @@ impl Alike {
         };
         let (more, number) = match self.head.starts_with("<t") {
             true => KNOWN.with_borrow_mut(|known| {
-                let rest = &rest[..rest.len().min(32)];
+                let rest = through_transition(rest);
                 let entry = known.entry(rest.to_vec());
                 *entry.or_insert_with(|| most_common(&self.ends, rest))
             }),
@@ -233,6 +249,15 @@ impl Alike {
     fn text(&self, number: usize) -> String {
         self.head.clone() + &self.ends[number]
     }
+}
+
+/// As much as the transitions' ends can have in common with: none of them has more
+/// than 71 bytes or goes on after `</transition>`.
+fn through_transition(rest: &[u8]) -> &[u8] {
+    const END: &[u8] = b"</transition>";
+    let rest = &rest[..rest.len().min(71)];
+    let found = rest.windows(END.len()).position(|bytes| bytes == END);
+    found.map_or(rest, |at| &rest[..at + END.len()])
 }
 
 /// The positions of the bytes that are left when the white space after each `>`
@@ -287,7 +312,7 @@ pub fn read(text: &[u8]) -> Result<Drawing, Stop> {
         done += shared;
         match kind {
             0 => drawing.marks.push(number == 1),
-            1 => drawing.actions.push(number),
+            1 => drawing.transitions.push(end_of_number(number)),
             2 => drawing.arcs.push(drawing.higher()[number]),
             _ => break,
         }
@@ -306,7 +331,7 @@ pub fn answer(text: &[u8], room: usize) -> Result<(u32, u64, Vec<u8>), Refusal> 
         Ok(drawing) => drawing,
         Err(stop) => return refused_at(13, stop.offset),
     };
-    let (places, transitions) = (drawing.marks.len(), drawing.actions.len());
+    let (places, transitions) = (drawing.marks.len(), drawing.transitions.len());
     if places == 0 || places > 64 {
         return refused(1);
     }

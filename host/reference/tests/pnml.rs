@@ -1,10 +1,10 @@
-//! The reader and the writer of F-1 against the definition.
+//! The reader and the writer of PNML text against the definition.
 
 use std::collections::HashSet;
 
 use reference::net::Net;
 use reference::pnml;
-use reference::pnml_definition::{self as definition, Arc, Drawing, HEAD, TAIL};
+use reference::pnml_definition::{self as definition, Arc, Drawing, HEAD, OPTIONAL, TAIL};
 
 /// The bytes that are tried at each position.
 const ALPHABET: &[u8] = b"0123456789apt\"<>/= \t\r\n\x00\xA0";
@@ -28,8 +28,8 @@ fn post(transition: usize, place: usize) -> Arc {
 fn drawing(places: usize, transitions: usize, arcs: &[Arc]) -> Drawing {
     Drawing {
         marks: (0..places).map(|place| place % 3 == 0).collect(),
-        actions: (0..transitions)
-            .map(|t| [7, 65_535, 0, 10][t % 4])
+        transitions: (0..transitions)
+            .map(|t| [(7, false), (65_535, true), (0, true), (10, false)][t % 4])
             .collect(),
         arcs: arcs.to_vec(),
     }
@@ -69,6 +69,16 @@ fn continues(text: &[u8]) {
     }
 }
 
+/// Sees that each beginning, with what follows it, stops so many bytes after the beginning.
+fn stop_at(rows: &[(String, String, usize)]) {
+    for (beginning, more, expected) in rows {
+        let text = beginning.clone() + more;
+        let stopped = agree(text.as_bytes());
+        assert_eq!(stopped, Some(beginning.len() + expected), "{text}");
+        continues(text.as_bytes());
+    }
+}
+
 #[test]
 fn offsets() {
     let place = "<place id=\"p0\"><initialMarking><text>";
@@ -79,8 +89,7 @@ fn offsets() {
     let twelve = |arcs: &[Arc]| begun(&drawing(12, 12, arcs));
     let head = || HEAD.to_owned();
     assert_eq!(HEAD.len(), 139);
-    // The beginning, what follows it, and the offset from there on.
-    let rows: &[(String, String, usize)] = &[
+    stop_at(&[
         (String::new(), String::new(), 0),
         (String::new(), format!(" {HEAD}"), 0),
         (String::new(), "<?xml".into(), 1),
@@ -122,20 +131,56 @@ fn offsets() {
         (twelve(&[post(3, 5)]), second("t1\""), 23),
         (twelve(&[post(11, 5)]), second("p"), 21),
         (twelve(&[post(11, 11)]), "<a".into(), 1),
-    ];
-    for (beginning, more, expected) in rows {
-        let text = beginning.clone() + more;
-        assert_eq!(
-            offset(text.as_bytes()),
-            Some(beginning.len() + expected),
-            "{text}"
-        );
-        agree(text.as_bytes());
-        continues(text.as_bytes());
-    }
+    ]);
     for byte in [0xA0, 0] {
         assert_eq!(offset(&[HEAD.as_bytes(), &[byte]].concat()), Some(139));
     }
+}
+
+#[test]
+fn offsets_of_optional_marks() {
+    let opened = "<transition id=\"t0\">";
+    let named = format!("{opened}<name><text>7</text></name>");
+    assert_eq!((opened.len(), named.len(), OPTIONAL.len()), (20, 47, 39));
+    let places = begun(&drawing(1, 0, &[]));
+    let row = |more: String, expected: usize| (places.clone(), more, expected);
+    let marked = |old: &str, new: &str| named.clone() + &OPTIONAL.replace(old, new);
+    let end = "</transition>";
+    stop_at(&[
+        row(format!("{opened}{OPTIONAL}<name>"), 21),
+        row(
+            format!("{opened}<name>{OPTIONAL}<text>7</text></name>{end}"),
+            28,
+        ),
+        row(
+            format!("{opened}<name><text>7</text>{OPTIONAL}</name>{end}"),
+            41,
+        ),
+        row(named.clone(), 47),
+        row(format!("{named}<"), 48),
+        row(format!("{named}<p"), 48),
+        row(marked(" tool", "  tool"), 61),
+        row(marked("desk", "Desk"), 67),
+        row(
+            marked("tool=\"desk\" version=\"1\"", "version=\"1\" tool=\"desk\""),
+            61,
+        ),
+        row(marked("1", "2"), 82),
+        row(marked("1", "10"), 83),
+        row(marked("/>", " />"), 84),
+        row(marked("/>", "></toolspecific>"), 84),
+        row(format!("{named}{OPTIONAL}"), 86),
+        row(format!("{named}{OPTIONAL}{OPTIONAL}{end}"), 87),
+        row(format!("{named}\n{OPTIONAL} \t{OPTIONAL}"), 90),
+        row(format!("{named}{OPTIONAL}<name>"), 87),
+        row(format!("{named}{end}{OPTIONAL}"), 62),
+        row(format!("{named}{OPTIONAL}{end}"), 99),
+        (
+            HEAD.to_owned(),
+            format!("<place id=\"p0\"><initialMarking><text>0</text></initialMarking>{OPTIONAL}"),
+            63,
+        ),
+    ]);
 }
 
 /// Small drawings whose texts are changed in every way below.
@@ -325,7 +370,12 @@ fn writes_the_text_and_reads_it() {
     let mut large = vec![0; 64 * 24];
     for (t, record) in large.chunks_exact_mut(24).enumerate() {
         record[..16].fill(0xFF);
+        record[18] = (t % 3 == 1).into();
         record[16..18].copy_from_slice(&(1039 * t as u16).to_le_bytes());
+    }
+    let mut longest = large.clone();
+    for record in longest.chunks_exact_mut(24) {
+        record[16..19].copy_from_slice(&[0xFF, 0xFF, 1]);
     }
     let mut row = large.clone();
     for (t, record) in row.chunks_exact_mut(24).enumerate() {
@@ -334,6 +384,7 @@ fn writes_the_text_and_reads_it() {
     }
     for (places, marking, table) in [
         (64, u64::MAX, &large[..]),
+        (64, u64::MAX, &longest[..]),
         (64, 0xA000_0000_0000_0401, &row[..]),
         (64, 0, &row[..24]),
         (64, 1 << 63, &row[..11 * 24]),
@@ -360,6 +411,8 @@ fn writes_the_text_and_reads_it() {
         let short = pnml::read(&text, &mut vec![0xA5; table.len() - 1]);
         assert_eq!(short.unwrap_err().number, 12);
     }
+    let length = pnml::write(64, u64::MAX, &longest, &mut vec![0; 400_000]);
+    assert_eq!(length, Ok(359_925));
 }
 
 #[test]

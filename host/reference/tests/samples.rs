@@ -1,4 +1,5 @@
-//! Document 01's samples of nets, firings and sizes, and the meaning on net R.
+//! Document 01's samples of nets, firings and sizes, the meaning on net R, and
+//! optional transitions.
 
 use reference::check::{Verdict, check};
 use reference::formula::{ALL, Formula, STEP};
@@ -16,6 +17,12 @@ fn table(rows: &[(u64, u64, u16)]) -> Vec<u8> {
         record
     };
     rows.iter().flat_map(record).collect()
+}
+
+/// The table with these transitions optional.
+fn marked(mut table: Vec<u8>, optional: &[usize]) -> Vec<u8> {
+    optional.iter().for_each(|t| table[24 * t + 18] = 1);
+    table
 }
 
 const NET_R: [(u64, u64, u16); 3] = [(1, 1, 1), (2, 4, 2), (4, 0, 3)];
@@ -67,6 +74,35 @@ fn sizes() {
 }
 
 #[test]
+fn marks() {
+    let r = table(&NET_R);
+    let optional = marked(r.clone(), &[0, 2]);
+    let (all, some) = (
+        Net::decode(3, &r).unwrap(),
+        Net::decode(3, &optional).unwrap(),
+    );
+    assert_eq!((all.pressed, some.pressed), (0b111, 0b010));
+    assert_eq!((some.next(7), some.pressed_next(7)), (0b101, 0));
+    assert_eq!((some.next(3), some.pressed_next(3)), (0b011, 0b010));
+    assert_eq!(some.conflict, all.conflict);
+    assert_eq!(fire(3, 3, &optional, 0), Ok(3));
+    for (byte, values) in [
+        (18, &[2, 3, 128, 255][..]),
+        (19, &[1]),
+        (21, &[255]),
+        (23, &[1]),
+    ] {
+        for &value in values {
+            let mut faulty = optional.clone();
+            faulty[24 + byte] = value;
+            let refusal = Net::decode(3, &faulty).unwrap_err();
+            assert_eq!((refusal.number, refusal.record), (3, 1));
+            assert_eq!(fire(3, 3, &faulty, 0), Err(refusal));
+        }
+    }
+}
+
+#[test]
 fn meaning() {
     let formula = |operator, left, right, action| Formula {
         operator,
@@ -79,11 +115,12 @@ fn meaning() {
         formula(STEP, 0, 0, 3),
         formula(ALL, 0, 1, 0),
     ];
-    let holds = |rows: &[(u64, u64, u16)], marking: u64| {
-        let net = Net::decode(3, &table(rows)).unwrap();
+    let holds_with = |rows: &[(u64, u64, u16)], optional: &[usize], marking: u64| {
+        let net = Net::decode(3, &marked(table(rows), optional)).unwrap();
         let graph = Graph::reachable(&net, marking, 100).unwrap();
         evaluate(&net, &graph, &formulas, 2)[2][0]
     };
+    let holds = |rows: &[(u64, u64, u16)], marking: u64| holds_with(rows, &[], marking);
     assert!(holds(&NET_R, 3));
     assert!(!holds(&NET_R, 1));
     assert!(!holds(&NET_R, 0));
@@ -91,4 +128,13 @@ fn meaning() {
     // Two loops, each with its own waiting transition: one transition waits
     // while the other goes round, but together they pass over none.
     assert!(!holds(&[(1, 1, 1), (2, 2, 1)], 3));
+    // Where t1 is optional, t0 may go round for ever, or nothing be fired at all.
+    assert!(!holds_with(&NET_R, &[1], 3));
+    assert!(!holds_with(&NET_R, &[1], 2));
+    assert!(!holds_with(&NET_R, &[0, 1], 3));
+    // Where it is pressed it is not passed over for ever.
+    assert!(holds_with(&NET_R, &[0], 3));
+    assert!(holds_with(&NET_R, &[0, 2], 3));
+    // Unless the loop, here of an optional t0, conflicts with it.
+    assert!(!holds_with(&[(1, 1, 1), (1, 4, 2), (4, 0, 3)], &[0], 1));
 }

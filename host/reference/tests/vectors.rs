@@ -51,12 +51,17 @@ fn agree(name: &str, count: usize, answer: impl Fn(&[String]) -> String) {
     }
 }
 
-#[test]
-fn trees() {
-    agree("trees.txt", 500, |fields| {
+fn agree_on_trees(name: &str, count: usize) {
+    agree(name, count, |fields| {
         let tables: Vec<Vec<u8>> = fields.iter().map(|field| bytes(field)).collect();
         check::check(&tables[0], &tables[1], &tables[2], &tables[3]).to_string()
     });
+}
+
+#[test]
+fn trees() {
+    agree_on_trees("trees.txt", 500);
+    agree_on_trees("trees_4.txt", 160);
 }
 
 #[test]
@@ -91,9 +96,8 @@ fn firings() {
     });
 }
 
-#[test]
-fn written_drawings() {
-    agree("pnml_write_1.txt", 160, |fields| {
+fn agree_on_written(name: &str, count: usize) {
+    agree(name, count, |fields| {
         let places = fields[0].parse().expect("places");
         let marking = fields[1].parse().expect("a marking");
         let mut room = room(&fields[3]);
@@ -107,8 +111,13 @@ fn written_drawings() {
 }
 
 #[test]
-fn read_drawings() {
-    agree("pnml_read_1.txt", 320, |fields| {
+fn written_drawings() {
+    agree_on_written("pnml_write_1.txt", 160);
+    agree_on_written("pnml_write.txt", 160);
+}
+
+fn agree_on_read(name: &str, count: usize) {
+    agree(name, count, |fields| {
         let (text, mut room) = (bytes(&fields[0]), room(&fields[1]));
         let read = pnml::read(&text, &mut room);
         let net = written(&room, read.map_or(0, |read| read.length));
@@ -121,4 +130,10 @@ fn read_drawings() {
             Err(refusal) => format!("{} {} 0 0 {net}", refusal.number, refusal.record),
         }
     });
+}
+
+#[test]
+fn read_drawings() {
+    agree_on_read("pnml_read_1.txt", 299);
+    agree_on_read("pnml_read.txt", 320);
 }

@@ -1,5 +1,5 @@
-//! samples FOLDER: writes document 01's samples, each into a folder of its own
-//! with the files ASK, NET, FORMULA, TREE, and LINE with the expected line.
+//! samples FOLDER: writes samples of documents 01 and 02, each into a folder of its
+//! own with the files ASK, NET, FORMULA, TREE, and LINE with the expected line.
 
 use std::path::Path;
 
@@ -13,6 +13,7 @@ fn main() -> std::io::Result<()> {
         ("r-fails-keeping-2", families::r_fails(2), "broken 24 at 3"),
         ("r-fails-keeping-0", families::r_fails(0), "broken 26 at 1"),
         ("one-place", families::one_place(), "accepted nodes 4"),
+        ("r-optional", families::r_optional(), "accepted nodes 4"),
         ("full-round", families::full_round(64), "accepted nodes 258"),
         (
             "full-file",

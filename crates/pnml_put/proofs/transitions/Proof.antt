@@ -6,15 +6,16 @@ use native.Mathlib.Omega.{arith}
 use Rattle.net.specs.Table.{actionAt}
 use Rattle.pnml_shape.specs.Drawing as drawing
 use Rattle.pnml_net.specs.Nets.{countdown}
-use Rattle.pnml_put.specs.Put.{Fit, transitionsText}
+use Rattle.pnml_put.specs.Put.{Fit, transitionsText, entryAt}
 use Rattle.pnml_put.proofs.Fits.{fit-none, fit-join, fit-recast}
 use Rattle.pnml_put.proofs.Pieces.{transitions-more}
+use Rattle.pnml_put.proofs.Texts.{entry-read}
 use borrow.Author.Needs.{needs}
 use Rattle.pnml_put.proofs.transitions.Statement.{statement}
 use Rattle.pnml_put.proofs.transitions.Tie as tie
 
 abbrev Inv-loop : tie.InvT-loop
-Inv-loop room₀ at count net next₀ t₀ room next t = (t ≤ count) × Fit (65 * t) room₀ room at (transitionsText (actionAt net) t) next
+Inv-loop room₀ at count net next₀ t₀ room next t = (t ≤ count) × Fit (104 * t) room₀ room at (transitionsText (entryAt net) t) next
 
 abbrev μ-loop : tie.MeasureT-loop
 μ-loop room₀ at count net next₀ t₀ room next t = count - t
@@ -23,14 +24,20 @@ loop-holds : tie.Need-loop-holds Inv-loop μ-loop
 unfolding countdown drawing.transitions drawing.joined
 loop-holds c = (zero-le, fit-none _ _ (c .before .before .pre .0))
 
-mul-u16-at : tie.Need-mul-u16-at Inv-loop μ-loop
-mul-u16-at c = search needs
+mul-from : tie.Need-mul-from Inv-loop μ-loop
+mul-from c = search needs
 
 add-u16-at : tie.Need-add-u16-at Inv-loop μ-loop
 add-u16-at c = search needs
 
 u16-at-requires : tie.Need-u16-at-requires Inv-loop μ-loop
 u16-at-requires c κs = search needs
+
+add-transition : tie.Need-add-transition Inv-loop μ-loop
+add-transition c = search needs
+
+shared-slice-read-transition : tie.Need-shared-slice-read-transition Inv-loop μ-loop
+shared-slice-read-transition c = search needs
 
 transition-requires : tie.Need-transition-requires Inv-loop μ-loop
 transition-requires c κs = search needs
@@ -44,11 +51,14 @@ loop-less c = search needs
 loop-again : tie.Need-loop-again Inv-loop μ-loop
 unfolding actionAt
 loop-again c =
-    let t = c .before .before .before .before .before in
-    let l = t .before in (
+    let p = c .before .before in
+    let a = p .before .before .before in
+    let t = a .before in
+    let l = t .before in
+    let net = l .before .before .before .args .net .now in (
       omega (arith, t .loop-test .taken),
-      fit-recast (omega arith) (transitions-more (actionAt (l .before .before .before .args .net .now)) _ _ (c .before .before .before .u16-at .ensures))
-          (fit-join (l .loop .inv .1) (c .before .before .transition .ensures)),
+      fit-recast (omega arith) (transitions-more (entryAt net) _ _ (entry-read net _ (a .u16-at .ensures)))
+          (fit-join (l .loop .inv .1) (p .transition .ensures)),
     )
 
 same-length : tie.Need-same-length Inv-loop μ-loop
@@ -58,7 +68,7 @@ returns : tie.Need-returns Inv-loop μ-loop
 returns c =
     let l = c .before in
     let s = l .before .before .before in
-    fit-recast (omega arith) (ap (λ k. transitionsText (actionAt (s .args .net .now)) k) (le-antisymm (l .loop .inv .0) (c .loop-test .left)))
+    fit-recast (omega arith) (ap (λ k. transitionsText (entryAt (s .args .net .now)) k) (le-antisymm (l .loop .inv .0) (c .loop-test .left)))
     (l .loop .inv .1)
 
 pub transitions-spec : {M : Type 1} → statement M
@@ -68,9 +78,11 @@ transitions-spec =
     Inv-loop
     μ-loop
     loop-holds
-    mul-u16-at
+    mul-from
     add-u16-at
     u16-at-requires
+    add-transition
+    shared-slice-read-transition
     transition-requires
     add-t
     loop-less

@@ -1,7 +1,8 @@
 -- `pnml_scan::transition` meets its contract. Assumes nothing.
-use borrow.Author.Needs.{needs}
 use native.Mathlib.Omega.{arith}
-use Rattle.pnml_scan.proofs.Parts.{head-of, label-of, tag-both, transition-of}
+use Rattle.pnml_scan.proofs.Parts.{head-of, tag-both}
+use Rattle.pnml_scan.proofs.Marks.{transition-of}
+use borrow.Author.Needs.{needs}
 use Rattle.pnml_scan.proofs.transition.Statement.{statement}
 use Rattle.pnml_scan.proofs.transition.Tie as tie
 
@@ -41,44 +42,20 @@ next-literal-requires-3 c κs = search needs
 next-number-requires-2 : tie.Need-next-number-requires-2
 next-number-requires-2 c κs = search needs
 
-slice-aggregate-next-literal-4 : tie.Need-slice-aggregate-next-literal-4
-slice-aggregate-next-literal-4 c = search needs
-
-next-literal-requires-4 : tie.Need-next-literal-requires-4
-next-literal-requires-4 c κs = search needs
-
-next-blank-requires-3 : tie.Need-next-blank-requires-3
-next-blank-requires-3 c κs = search needs
-
-slice-aggregate-next-literal-5 : tie.Need-slice-aggregate-next-literal-5
-slice-aggregate-next-literal-5 c = search needs
-
-next-literal-requires-5 : tie.Need-next-literal-requires-5
-next-literal-requires-5 c κs = search needs
-
-next-blank-requires-4 : tie.Need-next-blank-requires-4
-next-blank-requires-4 c κs = search needs
-
-slice-aggregate-next-literal-6 : tie.Need-slice-aggregate-next-literal-6
-slice-aggregate-next-literal-6 c = search needs
-
-next-literal-requires-6 : tie.Need-next-literal-requires-6
-next-literal-requires-6 c κs = search needs
+next-ending-requires : tie.Need-next-ending-requires
+next-ending-requires c κs = search needs
 
 returns : tie.Need-returns
 returns c =
-    let n = c .before .before .before .before .before .before .before .before in
-    let o = n .before .before .before .before in
+    let n = c .before .before in
+    let o = n .before .before .before in
     let h = o .before .before .before in
     transition-of
     (head-of (h .before .before .before .literal .ensures) (h .before .before .next-number .ensures) (h .next-literal .ensures))
-    (label-of
     (tag-both (omega arith) (o .before .before .next-blank .ensures) (o .next-literal2 .ensures))
-    (tag-both (omega arith) (n .before .before .before .next-blank2 .ensures) (n .before .next-literal3 .ensures))
-    (n .next-number2 .ensures)
-    (c .before .before .before .before .before .before .next-literal4 .ensures)
-    (tag-both (omega arith) (c .before .before .before .before .before .next-blank3 .ensures) (c .before .before .before .next-literal5 .ensures)))
-    (tag-both (omega arith) (c .before .before .next-blank4 .ensures) (c .next-literal6 .ensures))
+    (tag-both (omega arith) (n .before .before .next-blank2 .ensures) (n .next-literal3 .ensures))
+    (c .before .next-number2 .ensures)
+    (c .next-ending .ensures)
 
 pub transition-spec : {M : Type 1} → statement M
 transition-spec =
@@ -96,12 +73,5 @@ transition-spec =
     slice-aggregate-next-literal-3
     next-literal-requires-3
     next-number-requires-2
-    slice-aggregate-next-literal-4
-    next-literal-requires-4
-    next-blank-requires-3
-    slice-aggregate-next-literal-5
-    next-literal-requires-5
-    next-blank-requires-4
-    slice-aggregate-next-literal-6
-    next-literal-requires-6
+    next-ending-requires
     returns)

@@ -1,6 +1,6 @@
 -- `sample_walks::call` meets its contract. Assumes nothing.
 use Rattle.walk.specs.History as history
-use Rattle.sample_walks.proofs.Calling.{by-number, resets, loads-r, loads-beyond, loads-forward, fires}
+use Rattle.sample_walks.proofs.Calling.{by-number, resets, loads-r, loads-beyond, loads-forward, loads-optional, fires}
 use borrow.Author.Needs.{needs}
 use Rattle.sample_walks.proofs.call.Statement.{statement}
 use Rattle.sample_walks.proofs.call.Tie as tie
@@ -32,6 +32,15 @@ slice-aggregate-load-3 c = search needs
 load-requires-3 : tie.Need-load-requires-3
 load-requires-3 c κs = search needs
 
+net-optional-requires : tie.Need-net-optional-requires
+net-optional-requires c κs = search needs
+
+slice-aggregate-load-4 : tie.Need-slice-aggregate-load-4
+slice-aggregate-load-4 c = search needs
+
+load-requires-4 : tie.Need-load-requires-4
+load-requires-4 c κs = search needs
+
 fire-requires : tie.Need-fire-requires
 fire-requires c κs = search needs
 
@@ -56,8 +65,13 @@ returns-4 c = let net = c .before .before .transition .ensures in
 
 returns-5 : tie.Need-returns-5
 unfolding history.answered history.called
-returns-5 c = let no = c .before .match .rest in
-    by-number _ _ _ _ _ (fires _ (no .0 .0 .0 .1) (no .0 .0 .1) (no .0 .1) (no .1)) (c .fire .ensures .0) (c .fire .ensures .1)
+returns-5 c = let net = c .before .before .net-optional .ensures in
+    by-number _ _ _ _ _ (loads-optional (c .before .before .before .match .keys5)) (rw net at (c .load4 .ensures .0)) (rw net at (c .load4 .ensures .1))
+
+returns-6 : tie.Need-returns-6
+unfolding history.answered history.called
+returns-6 c = let no = c .before .match .rest in
+    by-number _ _ _ _ _ (fires _ (no .0 .0 .0 .0 .1) (no .0 .0 .0 .1) (no .0 .0 .1) (no .0 .1) (no .1)) (c .fire .ensures .0) (c .fire .ensures .1)
 
 pub call-spec : {M : Type 1} → statement M
 call-spec =
@@ -72,9 +86,13 @@ call-spec =
     transition-requires
     slice-aggregate-load-3
     load-requires-3
+    net-optional-requires
+    slice-aggregate-load-4
+    load-requires-4
     fire-requires
     returns
     returns-2
     returns-3
     returns-4
-    returns-5)
+    returns-5
+    returns-6)
