@@ -1,37 +1,18 @@
 -- Where no transition is optional, a formula holds exactly where it held. Assumes nothing.
-use mathlib.Core.Path.{_≡_, refl, sym, ap, _∙_}
-use mathlib.Core.Bool.{false, _||_}
+use mathlib.Core.Path.{_≡_, sym, _∙_}
+use mathlib.Core.Bool.{false}
 use mathlib.Core.List.{List}
 use Prim.Native.Nat.{ℕ, zero, suc, _<_}
 use Rattle.bitset.specs.Sets.{member}
 use Rattle.net.specs.declared.Net.{Net}
-use Rattle.net.specs.Step.{conflict}
-use Rattle.net.specs.Sequence.{Run, moves, meets}
-use Rattle.net.specs.Sequence.Run.{stop, fire}
 use Rattle.net.proofs.Urgent.{none-urgent}
 use Rattle.pctl.specs.Formula.{Formula, formula}
 use Rattle.pctl.specs.Formula.Formula.{truth, neg, conj, step, some-until, all-until}
 use Rattle.pctl.specs.Meaning.{Offence, Offending, Holds, ClaimOf, Claim}
 use Rattle.pctl.specs.Meaning.Offence.{broken, stuck, loops}
+use Rattle.pctl.proofs.Visits.{weaken, moves-weaken, meets-weaken}
 use Rattle.earlier.specs.Meaning.{EarlierOffence, EarlierOffending, EarlierHolds, EarlierClaimOf, EarlierClaim}
 use Rattle.earlier.specs.Meaning.EarlierOffence.{broken as was-broken, stuck as was-stuck, loops as was-loops}
-
--- ---- a firing sequence with another property at its markings
-
-module _ {N : Net} {P Q : ℕ → Type 0} (f : (m : ℕ) → P m → Q m) where
-  along : {m e : ℕ} → Run N P m e → Run N Q m e
-  along stop = stop
-  along (fire {m = m} t en p r) = fire t en (f m p) (along r)
-
-  along-moves : {m e : ℕ} (r : Run N P m e) → moves (along r) ≡ moves r
-  unfolding along moves
-  along-moves stop = refl
-  along-moves (fire t en p r) = refl
-
-  along-meets : (u : ℕ) {m e : ℕ} (r : Run N P m e) → meets u (along r) ≡ meets u r
-  unfolding along meets
-  along-meets u stop = refl
-  along-meets u (fire t en p r) = ap (λ b. conflict N u t || b) (along-meets u r)
 
 -- ---- offending runs, and what holds
 
@@ -44,19 +25,19 @@ module _ (N : Net) (none : (t : ℕ) → t < N .transitions → member (N .optio
     offence-was {e} (broken h) = was-broken (λ c. h (f e c))
     offence-was {e} (stuck h) = was-stuck (λ t. sym (none-urgent N none e t) ∙ h t)
     offence-was {e} (loops r m c) =
-        was-loops (along fails r) (along-moves fails r ∙ m) (λ t h. along-meets fails t r ∙ c t (none-urgent N none e t ∙ h))
+        was-loops (weaken fails r) (moves-weaken fails r ∙ m) (λ t h. meets-weaken fails t r ∙ c t (none-urgent N none e t ∙ h))
 
     offends-was : {m : ℕ} → Offending N A B m → EarlierOffending N C D m
-    offends-was o = record { last = o .last; run = along fails (o .run); fails = fails (o .last) (o .fails); offence = offence-was (o .offence) }
+    offends-was o = record { last = o .last; run = weaken fails (o .run); fails = fails (o .last) (o .fails); offence = offence-was (o .offence) }
 
     offence-is : {e : ℕ} → EarlierOffence N A B e → Offence N C D e
     offence-is {e} (was-broken h) = broken (λ c. h (f e c))
     offence-is {e} (was-stuck h) = stuck (λ t. none-urgent N none e t ∙ h t)
     offence-is {e} (was-loops r m c) =
-        loops (along fails r) (along-moves fails r ∙ m) (λ t h. along-meets fails t r ∙ c t (sym (none-urgent N none e t) ∙ h))
+        loops (weaken fails r) (moves-weaken fails r ∙ m) (λ t h. meets-weaken fails t r ∙ c t (sym (none-urgent N none e t) ∙ h))
 
     offends-is : {m : ℕ} → EarlierOffending N A B m → Offending N C D m
-    offends-is o = record { last = o .last; run = along fails (o .run); fails = fails (o .last) (o .fails); offence = offence-is (o .offence) }
+    offends-is o = record { last = o .last; run = weaken fails (o .run); fails = fails (o .last) (o .fails); offence = offence-is (o .offence) }
 
   -- the formula held where it holds, and holds where it held
   both : (A : Formula) → ((m : ℕ) → Holds N A m → EarlierHolds N A m) × ((m : ℕ) → EarlierHolds N A m → Holds N A m)
@@ -73,7 +54,7 @@ module _ (N : Net) (none : (t : ℕ) → t < N .transitions → member (N .optio
   both (some-until A B) =
       let a = both A in
       let b = both B in
-      (λ m h. (h .0, along (a .0) (h .1), b .0 _ (h .2)), λ m h. (h .0, along (a .1) (h .1), b .1 _ (h .2)))
+      (λ m h. (h .0, weaken (a .0) (h .1), b .0 _ (h .2)), λ m h. (h .0, weaken (a .1) (h .1), b .1 _ (h .2)))
   both (all-until A B) =
       let a = both A in
       let b = both B in (

@@ -1,5 +1,5 @@
 -- The PNML text of a table without marks. Assumes nothing.
-use mathlib.Core.Path.{_≡_, refl, ap, ap₂, _∙_}
+use mathlib.Core.Path.{_≡_, refl, sym, ap, ap₂, _∙_}
 use mathlib.Core.Bool.{Bool, true, false, cond}
 use mathlib.Core.List.{List, _++_}
 use Prim.Native.Nat.{ℕ, zero, suc, _+_, _-_, _*_, _<_}
@@ -16,6 +16,7 @@ use Rattle.net.specs.Table.{actionAt, transitions}
 use Rattle.pnml_shape.specs.Drawing.{openings, places, pressedPieces, optionalPieces, transitionPieces, arcs, closings, joined, pieces, written}
 use Rattle.pnml_shape.specs.Drawing as drawing
 use Rattle.pnml_net.specs.Nets.{countdown, markOf, entryBy, entryOf, netArcs, drawingOf}
+use Rattle.pnml_net.proofs.Marks.{countdown-length}
 use Rattle.pnml_write.specs.Answer.{refuse, putAnswer, textOf, writeAnswer}
 use Rattle.earlier.specs.Tables.{earlierNetOf}
 use Rattle.earlier.specs.Text.{earlierTransitions, earlierText, earlierWriteAnswer}
@@ -48,17 +49,12 @@ module _ (net : List ℕ) (are-bytes : (i : ℕ) → getD net i 0 < 256) where
         ∙ ap (λ b. cond b (pressedPieces i (actionOf (earlierNetOf P net) t)) (optionalPieces i (actionOf (earlierNetOf P net) t - 65536)))
         (lt-ltb (actionOf (earlierNetOf P net) t) 65536 (entry-below (upTo (actionAt net) (transitions net)) 65536 (omega arith) action-below 64 t))
 
-    count-is : (f g : ℕ → ℕ) (n : ℕ) → length (countdown f n) ≡ length (countdown g n)
-    unfolding countdown
-    count-is f g zero = refl
-    count-is f g (suc n) = ap suc (count-is f g n)
-
     transitions-are : (n : ℕ) → drawing.transitions (countdown (entryOf (earlierNetOf P net)) n) ≡ earlierTransitions (countdown (actionOf (earlierNetOf P net)) n)
     unfolding drawing.transitions earlierTransitions countdown
     transitions-are zero = refl
     transitions-are (suc n) =
         ap₂ _++_ (transitions-are n)
-        (ap (λ (i : ℕ). transitionPieces i (entryOf (earlierNetOf P net) n)) (count-is (entryOf (earlierNetOf P net)) (actionOf (earlierNetOf P net)) n)
+        (ap (λ (i : ℕ). transitionPieces i (entryOf (earlierNetOf P net) n)) (countdown-length (entryOf (earlierNetOf P net)) n ∙ sym (countdown-length (actionOf (earlierNetOf P net)) n))
         ∙ piece-is (length (countdown (actionOf (earlierNetOf P net)) n)) n)
 
     text-is : (m : ℕ) → written (drawingOf (earlierNetOf P net) m) ≡ earlierText (earlierNetOf P net) m
