@@ -1,6 +1,6 @@
 /* The desk's C interface: the tree check, the single firing and the category
- * labels of document 01, and nets as PNML text of document 02. Archive:
- * libdesk.a.
+ * labels of document 01; nets as PNML text and the writer of trees of document
+ * 02. Archive: libdesk.a.
  *
  * Tables and texts are lent as a pointer and a length in bytes. They are only
  * read, and nothing of them is kept after the call. Room for what a call writes
@@ -35,7 +35,8 @@ enum {
     DESK_FORMULAS_MAX = 256,
     DESK_NODES_MAX = 65536,
     DESK_CATEGORIES_MAX = 2000,
-    DESK_PNML_MAX = 359925 /* the longest text that desk_pnml_write writes */
+    DESK_PNML_MAX = 359925, /* the longest text that desk_pnml_write writes */
+    DESK_TREE_MAX = 2621440 /* the longest tree that desk_write_tree writes */
 };
 
 /* The numbers of documents 01 and 02. */
@@ -53,6 +54,7 @@ enum {
     DESK_BAD_CATEGORY = 10,      /* a faulty category record */
     DESK_SHORT_ROOM = 12,        /* the room is too short for what is to be written */
     DESK_BAD_PNML = 13,          /* the text is not of the shape that is read */
+    DESK_HAS_UNTIL = 14,         /* the asked formula contains operator 4 or 5 */
     DESK_FAULT_LINKS = 20,       /* parent, first child or number of children */
     DESK_FAULT_RANGE = 21,       /* a field out of range, or not zero where required */
     DESK_FAULT_ROOT = 22,        /* the root is not the ask in phase 0 */
@@ -63,7 +65,7 @@ enum {
     DESK_NOT_ENABLED = 41        /* the transition is not enabled */
 };
 
-/* Values of fields of an ask and of a label. */
+/* Values of fields of an ask and of a label, and of a side. */
 enum {
     DESK_HOLDS = 0,
     DESK_FAILS = 1,
@@ -124,6 +126,23 @@ uint32_t desk_pnml_write(uint32_t places, uint64_t marking,
 uint32_t desk_pnml_read(const uint8_t *text, size_t text_len,
                         uint8_t *room, size_t room_len,
                         uint64_t *offset, uint32_t *places, uint64_t *marking, uint64_t *length);
+
+/* Which side of the ask's formula is true at its marking? The tree that shows it
+ * is written to the start of the room, with at most 65,536 nodes; desk_check
+ * accepts it for the ask with that side. The answer is DESK_GRANTED with
+ * *record 0, DESK_HOLDS or DESK_FAILS in *side and the number of nodes in
+ * *nodes. It is 1 to 5 or 7 with the record, 0 except for 3 and 5; then 14 where
+ * the asked formula contains operator 4 or 5; then 12, exactly where the tree
+ * has more nodes than the room has whole records, or more than 65,536. With 14
+ * and 12 *record is 0. Where the call refuses, *side and *nodes are 0. The ask's
+ * own side is checked (1), and does not matter otherwise. Room of DESK_TREE_MAX
+ * bytes is enough for every tree that can be written. The call needs up to 230 KB
+ * of stack, and may take long where operator 3 is nested over many markings. */
+uint32_t desk_write_tree(const uint8_t *ask, size_t ask_len,
+                         const uint8_t *net, size_t net_len,
+                         const uint8_t *formulas, size_t formulas_len,
+                         uint8_t *room, size_t room_len,
+                         uint64_t *record, uint32_t *side, uint64_t *nodes);
 
 /* A pointer that is not null, for a table or text that may be NULL with length 0. */
 static inline const uint8_t *desk_table(const uint8_t *table)
@@ -194,6 +213,18 @@ static inline uint32_t desk_pnml_read_bytes(const uint8_t *text, size_t text_len
 {
     return desk_pnml_read(desk_table(text), text_len, desk_room(room), room_len,
                           offset, places, marking, length);
+}
+
+/* desk_write_tree, where a table or room of length 0 may be NULL. */
+static inline uint32_t desk_write_tree_bytes(const uint8_t *ask, size_t ask_len,
+                                             const uint8_t *net, size_t net_len,
+                                             const uint8_t *formulas, size_t formulas_len,
+                                             uint8_t *room, size_t room_len,
+                                             uint64_t *record, uint32_t *side, uint64_t *nodes)
+{
+    return desk_write_tree(desk_table(ask), ask_len, desk_table(net), net_len,
+                           desk_table(formulas), formulas_len, desk_room(room), room_len,
+                           record, side, nodes);
 }
 
 #ifdef __cplusplus

@@ -931,6 +931,180 @@ static void pnml_damaged(void)
     unreadable("a zero after the text", resized(text_of(HEAD, TAIL, ""), 160), DESK_BAD_PNML, 159);
 }
 
+/* Written trees */
+
+typedef uint32_t write_call(const uint8_t *, size_t, const uint8_t *, size_t, const uint8_t *,
+                            size_t, uint8_t *, size_t, uint64_t *, uint32_t *, uint64_t *);
+
+/* One call. Side and nodes are 0 where it is refused; what is written is accepted
+ * for its side alone. */
+static void write_tree_by(write_call *call, const char *what, table ask, table net, table formulas,
+                          uint8_t *room, size_t room_len, uint32_t number, uint64_t record,
+                          uint32_t side, uint64_t nodes)
+{
+    uint64_t found_record = UNWRITTEN;
+    uint32_t found_side = (uint32_t)UNWRITTEN;
+    uint64_t found_nodes = UNWRITTEN;
+    expect(what, "number", number,
+           call(ask.bytes, ask.len, net.bytes, net.len, formulas.bytes, formulas.len, room,
+                room_len, &found_record, &found_side, &found_nodes));
+    expect(what, "record", record, found_record);
+    expect(what, "side", side, found_side);
+    expect(what, "nodes", nodes, found_nodes);
+    if (number == DESK_GRANTED) {
+        table written = {room, (size_t)nodes * DESK_NODE_BYTES};
+        check(what, changed(ask, 11, (uint8_t)side), net, formulas, written, DESK_GRANTED, nodes);
+        check(what, changed(ask, 11, (uint8_t)(1 - side)), net, formulas, written,
+              DESK_FAULT_ROOT, 0);
+    }
+}
+
+/* `tree` is NOTHING where the call is refused. The function itself is called too
+ * where no pointer is NULL. */
+static void write_tree(const char *what, table ask, table net, table formulas, size_t room_len,
+                       uint32_t number, uint64_t record, uint32_t side, table tree)
+{
+    int null = ask.bytes == NULL || net.bytes == NULL || formulas.bytes == NULL;
+    for (size_t behind = 0; behind <= BEHIND; behind += BEHIND) {
+        uint8_t *room = filled(room_len + behind);
+        write_call *call = null || room == NULL || behind == 0 ? desk_write_tree_bytes
+                                                               : desk_write_tree;
+        write_tree_by(call, what, ask, net, formulas, room, room_len, number, record, side,
+                      tree.len / DESK_NODE_BYTES);
+        stands(what, room, room_len + behind, tree);
+        free(room);
+    }
+}
+
+/* A refused writing. */
+static void unwritten(const char *what, table ask, table net, table formulas, size_t room_len,
+                      uint32_t number, uint64_t record)
+{
+    write_tree(what, ask, net, formulas, room_len, number, record, 0, NOTHING);
+}
+
+/* R's formulas, then 3 = step(2) of 1, 4 = not 3, 5 = and(3, 1), 6 = and(1, 3),
+ * 7 = and(0, 3), 8 = and(7, 3). */
+static table formulas_written(void)
+{
+    static const uint8_t rows[6][4] = {{3, 1, 0, 2}, {1, 3, 0, 0}, {2, 3, 1, 0},
+                                       {2, 1, 3, 0}, {2, 0, 3, 0}, {2, 7, 3, 0}};
+    table t = resized(formulas_r(), 9 * DESK_FORMULA_BYTES);
+    for (size_t i = 0; i < 6; i++) {
+        put_formula(t.bytes + (3 + i) * DESK_FORMULA_BYTES, rows[i][0], rows[i][1], rows[i][2],
+                    rows[i][3]);
+    }
+    return t;
+}
+
+/* A written node: no anchor, kept, phase or round. */
+static node plain_node(uint64_t marking, uint16_t formula, uint8_t side, uint8_t rule,
+                       uint8_t transition, uint32_t parent, uint32_t first, uint8_t children)
+{
+    node n = {marking, 0, 0, parent, first, formula, children, rule, side, 0, 0, transition};
+    return n;
+}
+
+static void trees_written(void)
+{
+    enum { H = DESK_HOLDS, F = DESK_FAILS };
+    table formulas = formulas_written();
+    table nets[2] = {net_r(3), net_r_optional(1)};
+    const node truth[1] = {plain_node(3, 0, H, 15, 0, 0, 0, 0)};
+    const node one_fails[1] = {plain_node(3, 1, F, 24, 0, 0, 0, 0)};
+    const node one_holds[2] = {plain_node(5, 1, H, 2, 2, 0, 1, 1),
+                               plain_node(1, 0, H, 15, 0, 0, 0, 0)};
+    const node four[4] = {
+        plain_node(3, 4, F, 21, 0, 0, 1, 1),
+        plain_node(3, 3, H, 2, 1, 0, 2, 1),
+        plain_node(5, 1, H, 2, 2, 1, 3, 1),
+        plain_node(1, 0, H, 15, 0, 2, 0, 0),
+    };
+    const node five[2] = {plain_node(3, 5, F, 23, 0, 0, 1, 1),
+                          plain_node(3, 1, F, 24, 0, 0, 0, 0)};
+    const node six[2] = {plain_node(3, 6, F, 22, 0, 0, 1, 1), plain_node(3, 1, F, 24, 0, 0, 0, 0)};
+    /* Left with all below it, then right. */
+    const node eight[9] = {
+        plain_node(3, 8, H, 1, 0, 0, 1, 2), plain_node(3, 7, H, 1, 0, 0, 3, 2),
+        plain_node(3, 3, H, 2, 1, 0, 7, 1), plain_node(3, 0, H, 15, 0, 1, 0, 0),
+        plain_node(3, 3, H, 2, 1, 1, 5, 1), plain_node(5, 1, H, 2, 2, 4, 6, 1),
+        plain_node(1, 0, H, 15, 0, 5, 0, 0), plain_node(5, 1, H, 2, 2, 2, 8, 1),
+        plain_node(1, 0, H, 15, 0, 7, 0, 0),
+    };
+    const struct {
+        uint64_t marking, formula;
+        const node *nodes;
+        size_t count;
+    } cases[7] = {{3, 0, truth, 1}, {3, 1, one_fails, 1}, {5, 1, one_holds, 2}, {3, 4, four, 4},
+                  {3, 5, five, 2},  {3, 6, six, 2},       {3, 8, eight, 9}};
+    for (size_t i = 0; i < 7; i++) {
+        table tree = tree_of(cases[i].nodes, cases[i].count);
+        uint32_t side = cases[i].nodes[0].side;
+        for (uint8_t asked = 0; asked <= 1; asked++) {
+            table ask = ask_r(cases[i].marking, cases[i].formula, 3, asked), net = nets[asked];
+            write_tree("exact room", ask, net, formulas, tree.len, DESK_GRANTED, 0, side, tree);
+            write_tree("39 bytes more", ask, net, formulas, tree.len + 39, DESK_GRANTED, 0, side,
+                       tree);
+            write_tree("much more", ask, net, formulas, 1000, DESK_GRANTED, 0, side, tree);
+            unwritten("one byte short", ask, net, formulas, tree.len - 1, DESK_SHORT_ROOM, 0);
+            unwritten("no room", ask, net, formulas, 0, DESK_SHORT_ROOM, 0);
+        }
+    }
+}
+
+/* The refusals come in the order 1, 2, 3, 4, 5, 7, 14, 12. */
+static void trees_refused(void)
+{
+    table net = net_r(3), formulas = formulas_written();
+    table ask = ask_r(3, 2, 3, DESK_HOLDS), beyond = ask_r(8, 2, 3, DESK_HOLDS);
+    for (size_t room = 0; room <= 1000; room += 1000) {
+        unwritten("nothing at all", NOTHING, NOTHING, NOTHING, room, DESK_BAD_ASK, 0);
+        unwritten("side 2", ask_r(3, 2, 3, 2), NOTHING, NOTHING, room, DESK_BAD_ASK, 0);
+        unwritten("places 65", ask_r(3, 2, 65, 0), net, formulas, room, DESK_BAD_ASK, 0);
+        unwritten("ask cut", resized(ask, 11), net, formulas, room, DESK_BAD_ASK, 0);
+        unwritten("no net", beyond, NOTHING, NOTHING, room, DESK_BAD_NET_SIZE, 0);
+        unwritten("net cut", beyond, resized(net, 71), NOTHING, room, DESK_BAD_NET_SIZE, 0);
+        unwritten("spare byte", beyond, changed(net, 71, 1), NOTHING, room, DESK_BAD_TRANSITION,
+                  2);
+        unwritten("no formulas", beyond, net, NOTHING, room, DESK_BAD_FORMULAS_SIZE, 0);
+        unwritten("operator 7", beyond, net, changed(formulas, 24, 7), room, DESK_BAD_FORMULA, 3);
+        unwritten("marking beyond", beyond, net, formulas, room, DESK_BAD_MARKING, 0);
+        unwritten("formula beyond", ask_r(3, 9, 3, 0), net, formulas, room, DESK_BAD_MARKING, 0);
+        unwritten("operator 5", ask, net, formulas, room, DESK_HAS_UNTIL, 0);
+        unwritten("operator 4", ask, net, changed(formulas, 16, 4), room, DESK_HAS_UNTIL, 0);
+        unwritten("an until below", ask_r(3, 4, 3, 0), net, changed(formulas, 26, 2), room,
+                  DESK_HAS_UNTIL, 0);
+        unwritten("an until on the right", ask_r(3, 8, 3, 0), net, changed(formulas, 68, 2), room,
+                  DESK_HAS_UNTIL, 0);
+    }
+}
+
+/* 15 times "and" of the record before with itself are 65,535 nodes, each "not" of
+ * that is one more. */
+static void trees_at_the_limit(void)
+{
+    table net = net_r(3);
+    for (size_t nots = 0; nots <= 2; nots++) {
+        table formulas = empty_table((16 + nots) * DESK_FORMULA_BYTES);
+        for (size_t k = 1; k < 16 + nots; k++) {
+            put_formula(formulas.bytes + k * DESK_FORMULA_BYTES, k < 16 ? 2 : 1, k - 1,
+                        k < 16 ? k - 1 : 0, 0);
+        }
+        table ask = ask_r(3, 15 + nots, 3, DESK_HOLDS);
+        uint64_t nodes = 65535 + nots;
+        size_t len = (size_t)nodes * DESK_NODE_BYTES;
+        uint8_t *room = filled(len);
+        int fits = len <= DESK_TREE_MAX;
+        write_tree_by(desk_write_tree, "at the limit", ask, net, formulas, room, len - 1,
+                      DESK_SHORT_ROOM, 0, 0, 0);
+        stands("at the limit", room, len, NOTHING);
+        write_tree_by(desk_write_tree, "at the limit", ask, net, formulas, room, len,
+                      fits ? DESK_GRANTED : DESK_SHORT_ROOM, 0,
+                      fits && nots == 1 ? DESK_FAILS : DESK_HOLDS, fits ? nodes : 0);
+        free(room);
+    }
+}
+
 /* The tables of "R holds 2" as files, to be compared with the other places that
  * have them: 0 where they are written. */
 static int write_table(const char *folder, const char *name, table t)
@@ -984,6 +1158,12 @@ int main(int argc, char **argv)
     pnml_cut_short();
     give_back();
     pnml_damaged();
+    give_back();
+    trees_written();
+    give_back();
+    trees_refused();
+    give_back();
+    trees_at_the_limit();
     give_back();
     if (failed > 0) {
         printf("%u checks passed, %u failed\n", passed, failed);

@@ -1,5 +1,5 @@
-// The desk terminal's functions for C: the tree check, the single firing, the check of two category files, the place of a label, and PNML texts
-// written and read.
+// The desk terminal's functions for C: the tree check, the single firing, the check of two category files, the place of a label, PNML texts
+// written and read, and trees written.
 // Each out-parameter is written at every call.
 ghost use mathlib.Core.Path.{_≡_};
 ghost use lib.ListN.{take, drop};
@@ -11,6 +11,8 @@ ghost use Rattle.checker.specs.Demand as demand;
 ghost use Rattle.pnml_shape.specs.Theorem as theorem;
 ghost use Rattle.pnml_write.specs.Answer as writing;
 ghost use Rattle.pnml_read.specs.Answer as reading;
+ghost use Rattle.tree_answer.specs.Answer as trees;
+ghost use Rattle.tree_answer.specs.Theorem as worth;
 use checker::Verdict;
 
 // The tree check's answer in document 01's numbers: 0 where granted; the record, the node or the number of nodes.
@@ -142,4 +144,27 @@ pub extern "C" fn desk_pnml_read(
     *marking = read.marking;
     *length = read.length;
     read.number
+}
+
+// Writes the tree of the side that is true of the asked formula at the start of the room, whose other bytes stay: 0 with the side, 0 holds or 1
+// fails, and the number of nodes, or the refusal with its record; a refused call writes nothing. At 0 that side's claim is true, and the check
+// accepts the tree for the ask with that side.
+#[no_mangle]
+pub extern "C" fn desk_write_tree(
+    ask: &[u8],
+    net: &[u8],
+    formulas: &[u8],
+    room: &mut [u8],
+    record: &mut u64,
+    side: &mut u32,
+    nodes: &mut u64,
+) -> u32
+    ensures answer { λ r. let a = trees.writeAnswer (now (ask .entry)) (now (net .entry)) (now (formulas .entry)) (now (room .entry)) in ⌜ (r ≡ a .found .number) × (now («record» .exit) ≡ a .found .place) × (now (side .exit) ≡ a .side) × (now (nodes .exit) ≡ a .nodes) × (now (room .exit) ≡ a .room) ⌝ }
+    ensures worth { λ r. let a = trees.writeAnswer (now (ask .entry)) (now (net .entry)) (now (formulas .entry)) (now (room .entry)) in ⌜ worth.Worth (now (ask .entry)) (now (net .entry)) (now (formulas .entry)) a ⌝ }
+{
+    let told = tree_write::write_numbers(tree_write::write(ask, net, formulas, room));
+    *record = told.place;
+    *side = told.side;
+    *nodes = told.nodes;
+    told.number
 }

@@ -2,3 +2,4 @@
 pub mod Nodes
 pub mod Links
 pub mod Trails
+pub mod Written

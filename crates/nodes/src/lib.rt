@@ -2,6 +2,7 @@
 pub mod links;
 pub mod read;
 pub mod trail;
+pub mod write;
 
 use tableau::Sequent;
 

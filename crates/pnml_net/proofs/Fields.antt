@@ -13,13 +13,14 @@ use borrow.Author.Tests.{eqb-true, eqb-false}
 use Rattle.tables.specs.Bytes.{little, field}
 use Rattle.tables.proofs.Numbers.{Bytes}
 use Rattle.tables.proofs.Tests.{passed}
+use Rattle.stores.specs.Low.{lowBytes}
+use Rattle.stores.proofs.Low.{little-low, low-bytes, bytes-append}
 use Rattle.net.specs.Table.{preAt, postAt, spareAt}
 use Rattle.pnml_shape.specs.Drawing.{Arc}
-use Rattle.pnml_net.specs.Nets.{countdown, setOf, lowBytes, recordBytes, recordsOf}
+use Rattle.pnml_net.specs.Nets.{countdown, setOf, recordBytes, recordsOf}
 use Rattle.pnml_net.proofs.Marks.{countdown-length}
-use Rattle.pnml_net.proofs.Numbers.{little-low, low-bytes, bytes-append}
 
-record-length : (pre post entry : ℕ) → length (recordBytes pre post entry) ≡ 24
+pub record-length : (pre post entry : ℕ) → length (recordBytes pre post entry) ≡ 24
 unfolding recordBytes lowBytes
 record-length pre post entry = refl
 

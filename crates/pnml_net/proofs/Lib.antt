@@ -4,7 +4,6 @@ pub mod Members
 pub mod Sets
 pub mod Good
 pub mod Loaded
-pub mod Numbers
 pub mod Entries
 pub mod Records
 pub mod Order

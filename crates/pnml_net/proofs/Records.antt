@@ -1,14 +1,16 @@
 -- A net's records, from its drawing back. Assumes nothing.
-use mathlib.Core.Path.{_≡_, refl, sym, ap, ap₂, _∙_, subst}
+use mathlib.Core.Path.{_≡_, refl, sym, ap, ap₂, _∙_}
 use mathlib.Core.Bool.{true, false}
 use mathlib.Core.List.{List, _++_}
-use Prim.Native.Nat.{ℕ, zero, suc, _+_, _-_, _*_, _≤_, _<_}
+use Prim.Native.Nat.{ℕ, zero, suc, _+_, _*_, _≤_, _<_}
 use native.Mathlib.Nat.{add-assoc, suc-mul, lt-suc-self, lt-trans}
 use native.Mathlib.Omega.{arith}
-use lib.ListN.{length, take, drop, length-drop}
-use lib.Seq.{getD-drop, drop-drop, take-add, take-length}
+use lib.ListN.{length, take, drop}
+use lib.Seq.{drop-drop, take-add, take-length}
 use Rattle.tables.specs.Bytes.{field}
 use Rattle.tables.proofs.Numbers.{Bytes}
+use Rattle.stores.specs.Low.{lowBytes}
+use Rattle.stores.proofs.Low.{low-field}
 use Rattle.pnml_shape.specs.Drawing.{Arc}
 use Rattle.tables.proofs.Counts.{record-inside}
 use Rattle.bitset.specs.Sets.{within}
@@ -16,9 +18,8 @@ use Rattle.net.specs.declared.Net.{Net}
 use Rattle.net.specs.Step.{preOf, postOf}
 use Rattle.net.specs.Table.{preAt, postAt, spareAt, transitions, netOf}
 use Rattle.net.proofs.Answers.{decoded-pre, decoded-post}
-use Rattle.pnml_net.specs.Nets.{countdown, netArcs, entryOf, drawingOf, setOf, lowBytes, recordBytes, recordsOf}
+use Rattle.pnml_net.specs.Nets.{countdown, netArcs, entryOf, drawingOf, setOf, recordBytes, recordsOf}
 use Rattle.pnml_net.proofs.Marks.{countdown-length}
-use Rattle.pnml_net.proofs.Numbers.{low-little}
 use Rattle.pnml_net.proofs.Sets.{set-back}
 use Rattle.pnml_net.proofs.Loaded.{Loaded}
 use Rattle.pnml_net.proofs.Entries.{entry-field, entry-most, entry-decoded}
@@ -26,12 +27,6 @@ use Rattle.pnml_net.proofs.Entries.{entry-field, entry-most, entry-deco
 -- ---- one record
 
 module _ (l : List ℕ) (bytes : Bytes l) where
-  low-field : (n at : ℕ) → at + n ≤ length l → lowBytes n (field n at l) ≡ take n (drop at l)
-  unfolding field Bytes
-  low-field n at h =
-      low-little n (drop at l) (λ i. subst (λ (x : ℕ). x < 256) (sym (getD-drop at l i 0)) (bytes (at + i)))
-      (let e : length (drop at l) ≡ length l - at = length-drop at l in omega arith)
-
   two-parts : (n m at : ℕ) → take (n + m) (drop at l) ≡ take n (drop at l) ++ take m (drop (at + n) l)
   two-parts n m at = take-add n m (drop at l) ∙ ap (λ x. take n (drop at l) ++ take m x) (drop-drop n at l)
 
@@ -50,9 +45,9 @@ module _ (l : List ℕ) (bytes : Bytes l) where
       → recordBytes (preAt l t) (postAt l t) (field 3 (t * 24 + 16) l) ≡ take 24 (drop (t * 24) l)
   unfolding recordBytes preAt postAt spareAt
   record-back t h z =
-      ap₂ _++_ (low-field 8 (t * 24) (omega arith))
-      (ap₂ _++_ (low-field 8 (t * 24 + 8) (omega arith))
-      (ap₂ _++_ (low-field 3 (t * 24 + 16) (omega arith)) (ap (lowBytes 5) (sym z) ∙ low-field 5 (t * 24 + 19) (omega arith))))
+      ap₂ _++_ (low-field l bytes 8 (t * 24) (omega arith))
+      (ap₂ _++_ (low-field l bytes 8 (t * 24 + 8) (omega arith))
+      (ap₂ _++_ (low-field l bytes 3 (t * 24 + 16) (omega arith)) (ap (lowBytes 5) (sym z) ∙ low-field l bytes 5 (t * 24 + 19) (omega arith))))
       ∙ sym (record-parts (t * 24))
 
 -- ---- all records

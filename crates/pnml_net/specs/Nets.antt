@@ -1,9 +1,10 @@
 -- The drawing of a net with a marking, and the places, marking and records of a drawing (document 02, F-1 and F-4). Assumes nothing.
-use Prim.Native.Nat.{ℕ, zero, suc, _+_, _/_, _%_}
+use Prim.Native.Nat.{ℕ, zero, suc, _+_}
 use mathlib.Core.Bool.{Bool, true, false, cond, not, _&&_}
 use mathlib.Core.List.{List, [], _∷_, _++_}
 use lib.ListN.{length}
 use lib.Dec.{eqb}
+use Rattle.stores.specs.Low.{lowBytes}
 use Rattle.bitset.specs.Sets.{member, add}
 use Rattle.net.specs.declared.Net.{Net}
 use Rattle.net.specs.Step.{preOf, postOf, actionOf}
@@ -64,11 +65,6 @@ joins a t post = eqb (a .transition) t && cond post (a .post) (not (a .post))
 unfoldable pub setOf : List Arc → (transition : ℕ) (post : Bool) → ℕ
 setOf [] t post = 0
 setOf (a ∷ l) t post = add (setOf l t post) (a .place) (joins a t post)
-
--- a number as n bytes, the lowest first
-unfoldable pub lowBytes : (n : ℕ) → ℕ → List ℕ
-lowBytes zero x = []
-lowBytes (suc n) x = x % 256 ∷ lowBytes n (x / 256)
 
 -- a transition's record: action and mark are the entry's three bytes
 unfoldable pub recordBytes : (pre post entry : ℕ) → List ℕ

@@ -9,6 +9,7 @@ use lib.Seq.{sets}
 use lib.Dec.{ltb, leb}
 use borrow.Author.Tests.{not-true, not-false, leb-true, lt-ltb, le-ltb}
 use Rattle.tables.proofs.Tests.{and-left, and-right, if-true, if-false}
+use Rattle.stores.proofs.Stores.{sets-front}
 use Rattle.net.specs.Table.{transitionSize}
 use Rattle.pnml_shape.specs.Drawing.{Drawing}
 use Rattle.pnml_shape.specs.Machine.{Outcome, stopped, drawn}
@@ -21,7 +22,7 @@ use Rattle.pnml_turn.specs.declared.Reading.{Reading}
 use Rattle.pnml_turn.specs.Serving.{ReadWhole}
 use Rattle.pnml_records.specs.Records.{recordsBy}
 use Rattle.pnml_records.proofs.Records.{records-by}
-use Rattle.pnml_records.proofs.Stores.{sets-front, by-length}
+use Rattle.pnml_records.proofs.Stores.{by-length}
 use Rattle.pnml_read.specs.declared.Found.{Found}
 use Rattle.pnml_read.specs.declared.Numbers.{Numbers}
 use Rattle.pnml_read.specs.declared.ReadResult.{ReadResult}

@@ -4,24 +4,8 @@ ghost use Prim.Native.Nat.{_+_, _*_, _≤_};
 ghost use lib.ListN.{length};
 ghost use lib.Seq.{sets};
 ghost use Rattle.net.specs.Table.{transitionSize};
-ghost use Rattle.pnml_net.specs.Nets.{lowBytes, recordBytes};
+ghost use Rattle.pnml_net.specs.Nets.{recordBytes};
 ghost use Rattle.pnml_records.specs.Records.{recordsBy};
-
-// Puts the low bytes of a number, the lowest first.
-fn put_bytes(room: &mut [u8], at: usize, n: usize, x: u64)
-    requires { ⌜ at + n ≤ length (now room) ⌝ }
-    ensures { λ _. ⌜ now (room .exit) ≡ sets (now (room .entry)) at (lowBytes n x) ⌝ }
-{
-    let mut k = at;
-    let mut left = n;
-    let mut v = x;
-    while 0 < left {
-        room[k] = (v % 256) as u8;
-        v /= 256;
-        k += 1;
-        left -= 1;
-    }
-}
 
 // Puts the record of a transition with these sets and entry: its action, and 65,536 more where it is optional.
 fn put_record(room: &mut [u8], t: usize, pre: u64, post: u64, action: u32)
@@ -29,10 +13,10 @@ fn put_record(room: &mut [u8], t: usize, pre: u64, post: u64, action: u32)
     ensures { λ _. ⌜ now (room .exit) ≡ sets (now (room .entry)) (t * transitionSize) (recordBytes pre post action) ⌝ }
 {
     let at = t * net::RECORD;
-    put_bytes(room, at, 8, pre);
-    put_bytes(room, at + 8, 8, post);
-    put_bytes(room, at + 16, 3, action as u64);
-    put_bytes(room, at + 19, 5, 0);
+    stores::put_bytes(room, at, 8, pre);
+    stores::put_bytes(room, at + 8, 8, post);
+    stores::put_bytes(room, at + 16, 3, action as u64);
+    stores::put_bytes(room, at + 19, 5, 0);
 }
 
 // Puts the records of the first transitions.

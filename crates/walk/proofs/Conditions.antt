@@ -1,24 +1,22 @@
 -- A granted load gives a loaded walk, and every call keeps a loaded walk loaded. A new walk is not loaded. Assumes nothing.
 use mathlib.Core.Path.{_≡_, refl, sym, ap, _∙_}
-use mathlib.Core.Bool.{Bool, true, false, cond, not, _&&_, false≢true}
-use mathlib.Core.Logic.{_⊎_, inl, inr}
+use mathlib.Core.Bool.{Bool, true, false, cond, _&&_, false≢true}
 use mathlib.Core.List.{List, [], _∷_}
 use Prim.Native.Nat.{ℕ, _+_, _/_, _%_, _≤_, _<_, zero-le}
 use native.Mathlib.Omega.{arith}
 use lib.ListN.{getD, length}
 use lib.Dec.{eqb, ltb, leb}
 use borrow.Author.Tests.{lt-ltb, ltb-true, le-leb, not-false}
-use Rattle.bitset.specs.Sets.{member, within}
-use Rattle.tables.proofs.Tests.{and-left, and-right, and-intro, either, if-true}
-use Rattle.bitset.proofs.Relations.{within-member, member-within}
+use Rattle.bitset.specs.Sets.{within}
+use Rattle.tables.proofs.Tests.{and-left, and-right, and-intro, if-true}
 use Rattle.tables.specs.Sizes.{sized}
-use Rattle.net.specs.Step.{preOf, postOf, firedBy, enabled, fired}
+use Rattle.net.specs.Step.{preOf, postOf, enabled, fired}
 use Rattle.net.specs.Table.{preAt, postAt, markAt, spareAt, transitions, netOf, placesGood, tableSized, recordBad}
 use Rattle.tables.specs.Lists.{first}
 use Rattle.tables.specs.Faults.{scanFault}
 use Rattle.net.specs.Answer.{noFault, fault, orElse, tableFault, loadFault}
 use Rattle.net.proofs.Answers.{load-passed, decoded-pre, decoded-post}
-use Rattle.net.proofs.Independence.{member-firedBy}
+use Rattle.net.proofs.Independence.{moved-within}
 use Rattle.walk.specs.declared.Walk.{Walk}
 use Rattle.walk.specs.State.{netIn, startedAt, movedTo, empty, setsWithin, transitionsGood, netGood, loaded}
 use Rattle.walk.specs.Calls.{granted, loadAnswer, loadWalk, fireAnswer, fireWalk, loadedAnswer, resetWalk}
@@ -129,16 +127,6 @@ load-loaded w places m bytes h =
     ∙ sound-loaded (startedAt (netOf places bytes) m) (load-sound places m bytes (load-none places m bytes h))
 
 -- ---- fire and reset
-
--- a firing leads from a marking within the places to another, where the post set is within them
-moved-within : (n pre post m : ℕ) → within n post ≡ true → within n m ≡ true → within n (firedBy pre post m) ≡ true
-moved-within n pre post m p q =
-    member-within n (firedBy pre post m)
-    (λ k h. by k (either (member m k && not (member pre k)) (member post k) (sym (member-firedBy pre post m k) ∙ h)))
-  where
-    by : (k : ℕ) → ((member m k && not (member pre k)) ≡ true) ⊎ (member post k ≡ true) → k < n
-    by k (inl e) = within-member n m q k (and-left (member m k) (not (member pre k)) e)
-    by k (inr e) = within-member n post p k e
 
 moved-sound : (w : Walk) (m n : ℕ) → Sound w → within (w .places) m ≡ true → n ≤ 65535 → Sound (movedTo w m n)
 unfolding movedTo

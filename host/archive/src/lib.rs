@@ -60,6 +60,19 @@ mod c {
             marking: *mut u64,
             length: *mut u64,
         ) -> u32;
+        pub fn desk_write_tree(
+            ask: *const u8,
+            ask_len: usize,
+            net: *const u8,
+            net_len: usize,
+            formulas: *const u8,
+            formulas_len: usize,
+            room: *mut u8,
+            room_len: usize,
+            record: *mut u64,
+            side: *mut u32,
+            nodes: *mut u64,
+        ) -> u32;
     }
 }
 
@@ -182,4 +195,33 @@ pub fn pnml_read(text: &[u8], room: &mut [u8]) -> (u32, u64, u32, u64, u64) {
         )
     };
     (number, offset, places, marking, length)
+}
+
+/// The number, the record, the side and the nodes.
+pub fn write_tree(
+    ask: &[u8],
+    net: &[u8],
+    formulas: &[u8],
+    room: &mut [u8],
+) -> (u32, u64, u32, u64) {
+    let mut record = UNWRITTEN;
+    let mut side = UNWRITTEN as u32;
+    let mut nodes = UNWRITTEN;
+    // SAFETY: as in `check`.
+    let number = unsafe {
+        c::desk_write_tree(
+            ask.as_ptr(),
+            ask.len(),
+            net.as_ptr(),
+            net.len(),
+            formulas.as_ptr(),
+            formulas.len(),
+            room.as_mut_ptr(),
+            room.len(),
+            &mut record,
+            &mut side,
+            &mut nodes,
+        )
+    };
+    (number, record, side, nodes)
 }

@@ -8,8 +8,9 @@ use generate::cases::TreeCase;
 use generate::categories::{borrower, named};
 use generate::encode::{self, Transition};
 use generate::families::{self, NET_R};
+use generate::written::{self as claims, WrittenCase};
 use reference::category::CATEGORIES;
-use reference::{Refusal, category, check, net, pnml};
+use reference::{Refusal, category, check, net, pnml, written};
 
 type Call = Box<dyn Fn() -> u64>;
 
@@ -29,7 +30,7 @@ impl Bench {
 /// A name and what makes the case.
 type Named = (&'static str, fn() -> Bench);
 
-pub const CASES: [Named; 28] = [
+pub const CASES: [Named; 36] = [
     ("tree: R, 23 nodes", || tree_bench(families::r_holds())),
     ("tree: trail of 32767", || {
         tree_bench(families::trail_chain(32_767))
@@ -93,6 +94,22 @@ pub const CASES: [Named; 28] = [
     }),
     ("pnml: read 64 optional", || {
         read_bench(text(64, 5, &optional_net()))
+    }),
+    ("written: R, 4 nodes", || written_bench(claims::r_fails())),
+    ("written: 15 and", || written_bench(claims::ands(15, 0))),
+    ("written: 255 and, 12", || {
+        written_bench(claims::ands(255, 0))
+    }),
+    ("written: 255 not", || written_bench(claims::ands(0, 255))),
+    ("written: 31 children each", || {
+        written_bench(claims::wide(31, 3))
+    }),
+    ("written: 64 children, 12", || {
+        written_bench(claims::wide(64, 3))
+    }),
+    ("written: 254 steps", || written_bench(claims::ring(false))),
+    ("written: 254 steps, 12", || {
+        written_bench(claims::ring(true))
     }),
 ];
 
@@ -280,6 +297,29 @@ pub fn read_bench(text: Vec<u8>) -> Bench {
             answer.map_or_else(
                 |refusal| two(refusal.number, refusal.record),
                 |read| read.marking ^ read.length as u64,
+            )
+        }),
+    }
+}
+
+pub fn written_bench(case: WrittenCase) -> Bench {
+    let copy = case.clone();
+    let room = RefCell::new(vec![0; case.room]);
+    let room_copy = room.clone();
+    Bench {
+        archive: Box::new(move || {
+            let (case, room) = (black_box(&case), &mut room.borrow_mut()[..]);
+            let room = black_box(room);
+            let answer = archive::write_tree(&case.ask, &case.net, &case.formulas, room);
+            two(answer.0 ^ answer.2, answer.1 ^ answer.3)
+        }),
+        reference: Box::new(move || {
+            let (case, room) = (black_box(&copy), &mut room_copy.borrow_mut()[..]);
+            let room = black_box(room);
+            let answer = written::write(&case.ask, &case.net, &case.formulas, room);
+            answer.map_or_else(
+                |refusal| two(refusal.number, refusal.record),
+                |tree| two(tree.side.into(), tree.nodes),
             )
         }),
     }

@@ -3,8 +3,8 @@
 //! bench                            every case: medians and their ratio
 //! bench list                       the names of the cases
 //! bench one CASE SIDE TIMES        one case on one side (archive, reference)
-//! bench growth                     cost by nodes, depth and transitions, and by
-//!                                  length of text
+//! bench growth                     cost by nodes, depth and transitions, by length
+//!                                  of text, and of written trees by nodes and steps
 //! bench tables FOLDER              the tables of the cases as files, for pair/
 
 mod cases;
@@ -12,9 +12,10 @@ mod measure;
 
 use std::path::Path;
 
-use cases::{Bench, CASES, net_of, read_bench, text, tree_bench, write_bench};
+use cases::{Bench, CASES, net_of, read_bench, text, tree_bench, write_bench, written_bench};
 use generate::cases::TreeCase;
 use generate::families;
+use generate::written::{ands, switches};
 use measure::{medians, time_text};
 
 fn main() {
@@ -81,9 +82,17 @@ fn growth() {
     grow([5, 10, 20, 39].map(|width| (width, families::wide_tree(width, 64))));
     let full = [0, 1, 4, 16, 64];
     println!("by length of text (writing)");
-    grow_texts(full.map(|t| (text_of(t).len(), write_bench(64, 5, net_of(t)))));
+    let writes = full.map(|t| (text_of(t).len(), write_bench(64, 5, net_of(t))));
+    grow_parts("byte", writes);
     println!("by length of text (reading)");
-    grow_texts(full.map(|t| (text_of(t).len(), read_bench(text_of(t)))));
+    let reads = full.map(|t| (text_of(t).len(), read_bench(text_of(t))));
+    grow_parts("byte", reads);
+    println!("by nodes written (operator 2 only)");
+    let ands = [7, 9, 11, 13, 15].map(|n| ((2 << n) - 1, written_bench(ands(n, 0))));
+    grow_parts("node", ands);
+    println!("by steps (operator 3 over 256 markings, 8 enabled at each)");
+    let steps = [2, 3, 4, 5, 6, 7].map(|levels| (levels, written_bench(switches(levels))));
+    grow_parts("step", steps);
 }
 
 /// The text of a net with all arcs of the first transitions.
@@ -104,15 +113,16 @@ fn grow(cases: impl IntoIterator<Item = (usize, TreeCase)>) {
     }
 }
 
-/// The same for each byte.
-fn grow_texts(cases: impl IntoIterator<Item = (usize, Bench)>) {
+/// The same for each part of other things.
+fn grow_parts(part: &str, cases: impl IntoIterator<Item = (usize, Bench)>) {
+    let (parts, each) = (format!("{part}s"), format!("a {part}"));
     println!(
-        "  {:>7} {:>12} {:>12} {:>12} {:>12}",
-        "bytes", "archive", "a byte", "reference", "a byte"
+        "  {parts:>7} {:>12} {each:>12} {:>12} {each:>12}",
+        "archive", "reference"
     );
-    for (length, bench) in cases {
+    for (count, bench) in cases {
         print!(" ");
-        times(length, &bench);
+        times(count, &bench);
     }
 }
 

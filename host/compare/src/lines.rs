@@ -6,10 +6,13 @@ use generate::cases::TreeCase;
 use generate::categories::LabelCase;
 use generate::firings::FiringCase;
 use generate::pnml::{ReadCase, WriteCase};
+use generate::written::WrittenCase;
 use reference::check::Verdict;
 use reference::{category, check, net};
 
-use crate::drawings::{self, Answer};
+use crate::drawings;
+use crate::rooms::Answer;
+use crate::written;
 
 pub fn hex(bytes: &[u8]) -> String {
     if bytes.is_empty() {
@@ -67,6 +70,12 @@ pub fn write(case: &WriteCase, expected: &Answer, found: &Answer) -> String {
 pub fn read(case: &ReadCase, expected: &Answer, found: &Answer) -> String {
     let (text, room) = (hex(&case.text), case.room);
     format!("pnml_read {text} {room} = {expected} but {found}")
+}
+
+pub fn written(case: &WrittenCase, expected: &Answer, found: &Answer) -> String {
+    let tables = [&case.ask, &case.net, &case.formulas].map(|t| hex(t));
+    let (tables, room) = (tables.join(" "), case.room);
+    format!("written {tables} {room} = {expected} but {found}")
 }
 
 fn three((a, b, c): (u32, u64, u64)) -> String {
@@ -141,6 +150,19 @@ fn answers(kind: &str, input: &str) -> (String, String) {
             let expected = drawings::reference_read(&case);
             (found.to_string(), expected.to_string())
         }
+        "written" => {
+            let [ask, net, formulas] = [0, 1, 2].map(|i| bytes(fields[i]));
+            let room = fields[3].parse().expect("a room");
+            let case = WrittenCase {
+                ask,
+                net,
+                formulas,
+                room,
+            };
+            let found = written::archive_tree(&case);
+            let expected = written::reference_tree(&case);
+            (found.to_string(), expected.to_string())
+        }
         _ => {
             let places = fields[0].parse().expect("places");
             let marking = fields[1].parse().expect("a marking");
@@ -156,6 +178,16 @@ fn answers(kind: &str, input: &str) -> (String, String) {
     }
 }
 
+/// What the lines begin with.
+const KINDS: [&str; 6] = [
+    "tree ",
+    "label ",
+    "firing ",
+    "pnml_write ",
+    "pnml_read ",
+    "written ",
+];
+
 /// Compares the archive with every line of the vectors.
 pub fn vectors(folder: &str) -> ExitCode {
     let mut failed = 0;
@@ -168,14 +200,15 @@ pub fn vectors(folder: &str) -> ExitCode {
         ("tree", "trees_4"),
         ("pnml_write", "pnml_write"),
         ("pnml_read", "pnml_read"),
+        ("written", "written"),
     ] {
         let path = format!("{folder}/{name}.txt");
         let text = std::fs::read_to_string(&path).expect("the vectors are readable");
         let mut agreed = 0;
         for (number, line) in text.lines().enumerate() {
             let (input, expected) = line.split_once(" = ").expect("a line has an answer");
-            let (found, _) = answers(kind, input);
-            if found == expected {
+            let (found, reference) = answers(kind, input);
+            if agrees(&found, expected, &reference) {
                 agreed += 1;
             } else {
                 failed += 1;
@@ -187,14 +220,21 @@ pub fn vectors(folder: &str) -> ExitCode {
     ExitCode::from(u8::from(failed > 0))
 }
 
+/// Whether an answer is that of a vector, where `long` stands for the tree that the
+/// reference writes.
+fn agrees(found: &str, expected: &str, reference: &str) -> bool {
+    match expected.strip_suffix("long") {
+        Some(numbers) => found.starts_with(numbers) && found == reference,
+        None => found == expected,
+    }
+}
+
 /// Answers the lines that this program printed for differences.
 pub fn replay(file: &str) -> ExitCode {
     let text = std::fs::read_to_string(file).expect("the file is readable");
     let mut failed = false;
     for line in text.lines() {
-        let start = ["tree ", "label ", "firing ", "pnml_write ", "pnml_read "]
-            .iter()
-            .find_map(|kind| line.find(kind));
+        let start = KINDS.iter().find_map(|kind| line.find(kind));
         let Some((kind, input)) = start.and_then(|start| line[start..].split_once(' ')) else {
             continue;
         };

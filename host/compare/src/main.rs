@@ -8,17 +8,20 @@
 mod drawings;
 mod lines;
 mod programs;
+mod rooms;
 mod tally;
+mod written;
 
 use std::process::ExitCode;
 use std::time::Instant;
 
 use generate::cases::{Case, Generator, Kind, TreeCase};
 use generate::categories::LabelCase;
-use generate::encode::has_optional;
+use generate::encode::{has_optional, has_until};
 use generate::firings::FiringCase;
 use generate::pnml::{ReadCase, WriteCase, read_case, write_case};
 use generate::prng::Prng;
+use generate::written::{WrittenCase, written_case};
 use reference::check::{Input, NODE, Node};
 use reference::meaning::{Graph, evaluate};
 use reference::rules::HOLDS;
@@ -30,6 +33,8 @@ use tally::Tally;
 const MARKINGS: usize = 3000;
 /// Of so many cases, one more is a net to write and one a text to read.
 const DRAWINGS: u64 = 8;
+/// Of so many cases, one more is a claim whose tree is written.
+const CLAIMS: u64 = 5;
 
 fn main() -> ExitCode {
     let arguments: Vec<String> = std::env::args().skip(1).collect();
@@ -58,11 +63,15 @@ fn generated(cases: u64, seed: u64) -> ExitCode {
     let start = Instant::now();
     let mut generator = Generator::new(seed);
     let mut drawings = Prng::new(seed);
+    let mut claims = Prng::new(seed);
     let mut tally = Tally::default();
     for case in 0..cases {
         if case % DRAWINGS == 0 {
             compare_write(&mut tally, &write_case(&mut drawings));
             compare_read(&mut tally, &read_case(&mut drawings));
+        }
+        if case % CLAIMS == 0 {
+            compare_written(&mut tally, &written_case(&mut claims));
         }
         match generator.case() {
             Case::Tree(kind, case) => compare_tree(&mut tally, kind, &case),
@@ -90,7 +99,7 @@ fn compare_tree(tally: &mut Tally, kind: Kind, case: &TreeCase) {
     if found != expected {
         tally.difference(size(case), || lines::tree(case, expected, found));
     }
-    if kind == Kind::Valid && expected.0 != 0 {
+    if matches!(kind, Kind::Valid | Kind::Written) && expected.0 != 0 {
         tally.refused_valid += 1;
     }
     if expected.0 == 0 {
@@ -184,5 +193,29 @@ fn compare_read(tally: &mut Tally, case: &ReadCase) {
     tally.read(expected.number(), has_optional(expected.written()));
     if found != expected {
         tally.difference(case.text.len(), || lines::read(case, &expected, &found));
+    }
+}
+
+fn compare_written(tally: &mut Tally, case: &WrittenCase) {
+    let expected = written::reference_tree(case);
+    let found = written::archive_tree(case);
+    let (optional, until) = (has_optional(&case.net), has_until(&case.formulas));
+    tally.written(expected.number(), optional, until);
+    if found != expected {
+        let size = case.net.len() + case.formulas.len() + case.room;
+        tally.difference(size, || lines::written(case, &expected, &found));
+    }
+    if found.number() == 0 {
+        let [claim, other] = written::claims(case, &found);
+        compare_tree(tally, Kind::Written, &claim);
+        compare_other(tally, &other);
+    }
+}
+
+/// The tree of a claim must not be accepted for the other side.
+fn compare_other(tally: &mut Tally, case: &TreeCase) {
+    let found = archive::check(&case.ask, &case.net, &case.formulas, &case.tree);
+    if found.0 == 0 {
+        tally.contradiction(size(case), || lines::tree(case, (22, 0), found));
     }
 }

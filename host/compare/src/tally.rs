@@ -12,6 +12,9 @@ const ANSWERS: [u32; 19] = [
 const WRITES: [u32; 6] = [0, 1, 2, 3, 7, 12];
 const READS: [u32; 5] = [0, 1, 2, 12, 13];
 
+/// The answers of the writer of trees that must occur.
+const WRITTEN: [u32; 9] = [0, 1, 2, 3, 4, 5, 7, 12, 14];
+
 /// The rules that depend on what is pressed, all of which must occur in accepted
 /// trees at markings where an optional transition is enabled.
 const PRESSED: [u32; 6] = [6, 7, 9, 12, 29, 31];
@@ -123,6 +126,10 @@ pub struct Tally {
     optional_writes: Counts,
     reads: Counts,
     optional_reads: Counts,
+    written: Counts,
+    optional_written: Counts,
+    /// The answers where the formula table has an "until".
+    until_written: Counts,
     pub evaluated: u64,
     pub unevaluated: u64,
     pub refused_valid: u64,
@@ -158,6 +165,16 @@ impl Tally {
         self.reads.add(number);
         if optional {
             self.optional_reads.add(number);
+        }
+    }
+
+    pub fn written(&mut self, number: u32, optional: bool, until: bool) {
+        self.written.add(number);
+        if optional {
+            self.optional_written.add(number);
+        }
+        if until {
+            self.until_written.add(number);
         }
     }
 
@@ -203,6 +220,12 @@ impl Tally {
             self.optional_writes.text(&[0]),
             self.optional_reads.text(&[0])
         );
+        println!("  trees written: {}", self.written.text(&WRITTEN));
+        println!(
+            "  with an optional transition {}, with an until in the table {}",
+            self.optional_written.text(&[0]),
+            self.until_written.text(&[0, 14])
+        );
         println!(
             "accepted trees with the meaning evaluated: {}, graph too large: {}",
             self.evaluated, self.unevaluated
@@ -230,17 +253,24 @@ impl Tally {
 
     fn missing(&self) -> Vec<String> {
         let mut missing = self.rules.missing("rule", &RULES.map(u32::from));
-        let optional = [
+        let marked = [
             ("optional: rule", &self.optional_rules, &PRESSED[..]),
             ("optional: writer's answer", &self.optional_writes, &[0]),
             ("optional: reader's answer", &self.optional_reads, &[0]),
+            (
+                "optional: written tree's answer",
+                &self.optional_written,
+                &[0],
+            ),
+            ("until: written tree's answer", &self.until_written, &[0]),
         ];
-        for (name, counts, numbers) in optional {
+        for (name, counts, numbers) in marked {
             missing.extend(counts.missing(name, numbers));
         }
         missing.extend(self.answers.missing("answer", &ANSWERS));
         missing.extend(self.writes.missing("writer's answer", &WRITES));
         missing.extend(self.reads.missing("reader's answer", &READS));
+        missing.extend(self.written.missing("written tree's answer", &WRITTEN));
         missing
     }
 

@@ -34,15 +34,18 @@ pub enum Kind {
     Mutated,
     Random,
     Sizes,
+    /// Trees that the archive has written; the generator makes none.
+    Written,
 }
 
-pub const KINDS: [(Kind, &str); 6] = [
+pub const KINDS: [(Kind, &str); 7] = [
     (Kind::Valid, "trees by the rules"),
     (Kind::Swerved, "trees that leave the rules at one node"),
     (Kind::Deviated, "trees that leave the rules at some nodes"),
     (Kind::Mutated, "changed trees"),
     (Kind::Random, "random bytes"),
     (Kind::Sizes, "table sizes at the limits"),
+    (Kind::Written, "trees that were written"),
 ];
 
 pub enum Case {

@@ -1,7 +1,7 @@
 //! Records as bytes.
 
-use reference::check::{ASK, Ask, NODE, Node};
-use reference::formula::{FORMULA, Formula};
+use reference::check::{ASK, Ask, Node};
+use reference::formula::{ALL, FORMULA, Formula, SOME};
 use reference::net::{MARK, TRANSITION, is_optional, members};
 
 #[derive(Clone, Copy, Debug, PartialEq, Eq)]
@@ -35,6 +35,12 @@ pub fn has_optional(net: &[u8]) -> bool {
     net.chunks_exact(TRANSITION).any(is_optional)
 }
 
+/// Whether a formula table has an "until".
+pub fn has_until(formulas: &[u8]) -> bool {
+    let mut records = formulas.chunks_exact(FORMULA);
+    records.any(|record| matches!(record[0], SOME | ALL))
+}
+
 pub fn formula(f: &Formula) -> [u8; FORMULA] {
     let mut record = [0; FORMULA];
     record[0] = f.operator;
@@ -57,24 +63,6 @@ pub fn ask(ask: &Ask) -> Vec<u8> {
     record.to_vec()
 }
 
-pub fn node(node: &Node) -> [u8; NODE] {
-    let s = &node.sequent;
-    let mut record = [0; NODE];
-    record[0..8].copy_from_slice(&s.marking.to_le_bytes());
-    record[8..16].copy_from_slice(&s.anchor.to_le_bytes());
-    record[16..24].copy_from_slice(&s.kept.to_le_bytes());
-    record[24..28].copy_from_slice(&node.parent.to_le_bytes());
-    record[28..32].copy_from_slice(&node.first.to_le_bytes());
-    record[32..34].copy_from_slice(&s.formula.to_le_bytes());
-    record[34] = node.children;
-    record[35] = node.rule;
-    record[36] = s.side;
-    record[37] = s.phase;
-    record[38] = s.round;
-    record[39] = node.transition;
-    record
-}
-
 pub fn tree(nodes: &[Node]) -> Vec<u8> {
-    nodes.iter().flat_map(node).collect()
+    nodes.iter().flat_map(Node::record).collect()
 }

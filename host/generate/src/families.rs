@@ -13,7 +13,7 @@ use crate::layout::{Order, lay_out};
 use crate::prng::Prng;
 use crate::search::{Model, Outcome, prove};
 
-fn formula(operator: u8, left: u16, right: u16, action: u16) -> Formula {
+pub(crate) fn formula(operator: u8, left: u16, right: u16, action: u16) -> Formula {
     Formula {
         operator,
         left,

@@ -1,5 +1,5 @@
-//! A seeded generator of cases: trees, category files, single firings, and nets
-//! as PNML text.
+//! A seeded generator of cases: trees, category files, single firings, nets as
+//! PNML text, and claims whose tree is to be written.
 
 pub mod cases;
 pub mod categories;
@@ -10,5 +10,7 @@ pub mod layout;
 pub mod mutate;
 pub mod pnml;
 pub mod prng;
+pub mod rooms;
 pub mod search;
 pub mod settings;
+pub mod written;

@@ -6,6 +6,7 @@ use reference::pnml_definition::{Arc, Drawing, HEAD, OPTIONAL, TAIL};
 use crate::encode::{self, Transition};
 use crate::firings::firing_case;
 use crate::prng::Prng;
+use crate::rooms::room;
 use crate::settings::optional;
 
 /// A net with its marking, and the length of the room.
@@ -32,7 +33,7 @@ pub fn write_case(rng: &mut Prng) -> WriteCase {
     };
     let good = Net::decode(case.places, &case.net).ok();
     let length = good.map_or(500, |net| Drawing::of(&net, case.marking).text().len());
-    case.room = room(rng, length);
+    case.room = room(rng, length, TRANSITION);
     case
 }
 
@@ -97,17 +98,6 @@ fn action(rng: &mut Prng) -> u16 {
     }
 }
 
-/// Room for a length: exact, one short, long, none or far too short.
-fn room(rng: &mut Prng, length: usize) -> usize {
-    match rng.below(10) {
-        0 | 1 => length.saturating_sub(1),
-        2..=4 => length + rng.pick(&[1, 2, 24, 1000]),
-        5 => 0,
-        6 => rng.below(length + 1),
-        _ => length,
-    }
-}
-
 /// Texts of the shape, and texts that leave it.
 pub fn read_case(rng: &mut Prng) -> ReadCase {
     let mut drawing = drawing(rng);
@@ -124,7 +114,7 @@ pub fn read_case(rng: &mut Prng) -> ReadCase {
             change(rng, &mut text);
         }
     }
-    let room = room(rng, drawing.transitions.len() * TRANSITION);
+    let room = room(rng, drawing.transitions.len() * TRANSITION, TRANSITION);
     ReadCase { text, room }
 }
 

@@ -424,10 +424,7 @@ fn formula(rng: &mut Prng, setting: &Setting, table: &[Formula], operator: u8) -
         false => rng.below(table.len()) as u16,
     };
     let right = rng.below(table.len()) as u16;
-    let action = match rng.percent(85) {
-        true => rng.pick(&setting.transitions).action,
-        false => action(rng),
-    };
+    let action = action_of(rng, setting);
     let (left, right, action) = match operator {
         NOT => (right, 0, 0),
         STEP => (left, 0, action),
@@ -438,5 +435,13 @@ fn formula(rng: &mut Prng, setting: &Setting, table: &[Formula], operator: u8) -
         left,
         right,
         action,
+    }
+}
+
+/// An action, of the net for the most part.
+pub fn action_of(rng: &mut Prng, setting: &Setting) -> u16 {
+    match rng.percent(85) {
+        true => rng.pick(&setting.transitions).action,
+        false => action(rng),
     }
 }

@@ -1,7 +1,8 @@
 //! An independent implementation of document 01: the single firing, the
 //! category files, the tree check, the program's line, and the meaning of
 //! formulas on the graph of reachable markings. Of document 02: nets as PNML
-//! text (F-1) and optional transitions (F-4).
+//! text (F-1), optional transitions (F-4) and the tree of a formula without
+//! "until" (F-5).
 
 pub mod bytes;
 pub mod category;
@@ -12,6 +13,7 @@ pub mod net;
 pub mod pnml;
 pub mod pnml_definition;
 pub mod rules;
+pub mod written;
 
 /// A call refused because of its input: the documents' number and the record
 /// (with 13 the offset).

@@ -1,37 +1,19 @@
 //! Document 01's samples of nets, firings and sizes, the meaning on net R, and
 //! optional transitions.
 
+mod tables;
+
 use reference::check::{Verdict, check};
 use reference::formula::{ALL, Formula, STEP};
 use reference::meaning::{Graph, evaluate};
 use reference::net::{Net, fire};
 
-/// A net's table from pre, post and action.
-fn table(rows: &[(u64, u64, u16)]) -> Vec<u8> {
-    let record = |row: &(u64, u64, u16)| {
-        let mut record = Vec::new();
-        record.extend(row.0.to_le_bytes());
-        record.extend(row.1.to_le_bytes());
-        record.extend(row.2.to_le_bytes());
-        record.extend([0; 6]);
-        record
-    };
-    rows.iter().flat_map(record).collect()
-}
+use tables::{NET_R, ask, table};
 
 /// The table with these transitions optional.
 fn marked(mut table: Vec<u8>, optional: &[usize]) -> Vec<u8> {
     optional.iter().for_each(|t| table[24 * t + 18] = 1);
     table
-}
-
-const NET_R: [(u64, u64, u16); 3] = [(1, 1, 1), (2, 4, 2), (4, 0, 3)];
-
-fn ask(marking: u64, formula: u16, places: u8, side: u8) -> Vec<u8> {
-    let mut ask = marking.to_le_bytes().to_vec();
-    ask.extend(formula.to_le_bytes());
-    ask.extend([places, side]);
-    ask
 }
 
 #[test]

@@ -1,5 +1,7 @@
 //! The reference agrees with every line of the vectors.
 
+use reference::check::{NODE, Verdict};
+use reference::written::{Written, write};
 use reference::{category, check, net, pnml, pnml_definition};
 
 fn lines(name: &str) -> Vec<(Vec<String>, String)> {
@@ -136,4 +138,29 @@ fn agree_on_read(name: &str, count: usize) {
 fn read_drawings() {
     agree_on_read("pnml_read_1.txt", 299);
     agree_on_read("pnml_read.txt", 320);
+}
+
+/// The most nodes of a tree that the vectors write out.
+const LONG: u64 = 1000;
+
+#[test]
+fn written_trees() {
+    agree("written.txt", 160, |fields| {
+        let [mut ask, net, formulas] = [0, 1, 2].map(|i| bytes(&fields[i]));
+        let mut room = room(&fields[3]);
+        let Written { side, nodes } = match write(&ask, &net, &formulas, &mut room) {
+            Ok(answer) => answer,
+            Err(refusal) => {
+                let tree = written(&room, 0);
+                return format!("{} {} 0 0 {tree}", refusal.number, refusal.record);
+            }
+        };
+        let length = nodes as usize * NODE;
+        let tree = written(&room, length);
+        ask[11] = side;
+        let verdict = check::check(&ask, &net, &formulas, &room[..length]);
+        assert_eq!(verdict, Verdict::Accepted { nodes });
+        let tree = if nodes > LONG { "long" } else { &tree };
+        format!("0 0 {side} {nodes} {tree}")
+    });
 }

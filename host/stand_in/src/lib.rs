@@ -1,7 +1,7 @@
 //! The C functions of documents 01 and 02 over the reference. It stands in for the archive
 //! while the tests themselves are tried out, and is no part of the gate.
 
-use reference::{category, check, net, pnml};
+use reference::{category, check, net, pnml, written};
 
 /// # Safety
 /// The pointer is that of `len` readable bytes.
@@ -161,6 +161,42 @@ pub unsafe extern "C" fn desk_pnml_read(
         *places = read.places;
         *marking = read.marking;
         *length = read.length as u64;
+    }
+    number
+}
+
+/// # Safety
+/// See `include/desk.h`.
+#[unsafe(no_mangle)]
+pub unsafe extern "C" fn desk_write_tree(
+    ask: *const u8,
+    ask_len: usize,
+    net: *const u8,
+    net_len: usize,
+    formulas: *const u8,
+    formulas_len: usize,
+    tree: *mut u8,
+    tree_len: usize,
+    record: *mut u64,
+    side: *mut u32,
+    nodes: *mut u64,
+) -> u32 {
+    let answer = unsafe {
+        written::write(
+            bytes(ask, ask_len),
+            bytes(net, net_len),
+            bytes(formulas, formulas_len),
+            room(tree, tree_len),
+        )
+    };
+    let (number, at, true_side, count) = match answer {
+        Ok(written) => (0, 0, written.side.into(), written.nodes),
+        Err(refusal) => (refusal.number, refusal.record, 0, 0),
+    };
+    unsafe {
+        *record = at;
+        *side = true_side;
+        *nodes = count;
     }
     number
 }

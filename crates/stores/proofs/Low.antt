@@ -1,14 +1,21 @@
 -- Numbers as bytes, the lowest first, and back. Assumes nothing.
 use mathlib.Core.Path.{_≡_, refl, sym, ap, ap₂, _∙_, subst}
 use mathlib.Core.List.{List, [], _∷_, _++_}
-use Prim.Native.Nat.{ℕ, zero, suc, _+_, _*_, _/_, _%_, _^_, _≤_, _<_}
+use Prim.Native.Nat.{ℕ, zero, suc, _+_, _-_, _*_, _/_, _%_, _^_, _≤_, _<_}
 use native.Mathlib.Nat.{not-suc-le-zero, le-of-suc-le-suc, pow-succ', mod-lt, zero-lt-suc}
 use native.Mathlib.Omega.{arith}
-use lib.ListN.{length, take}
+use lib.ListN.{length, take, drop, length-drop}
+use lib.Seq.{getD-drop}
 use lib.Arith.{lt-one}
-use Rattle.tables.specs.Bytes.{little}
+use Rattle.tables.specs.Bytes.{little, field}
 use Rattle.tables.proofs.Numbers.{Bytes}
-use Rattle.pnml_net.specs.Nets.{lowBytes}
+use Rattle.stores.specs.Low.{lowBytes}
+
+-- there are so many
+pub low-length : (n x : ℕ) → length (lowBytes n x) ≡ n
+unfolding lowBytes
+low-length zero x = refl
+low-length (suc n) x = ap suc (low-length n (x / 256))
 
 -- the bytes of a number that bytes write are these bytes
 pub low-little : (n : ℕ) (l : List ℕ) → Bytes l → n ≤ length l → lowBytes n (little n l) ≡ take n l
@@ -20,6 +27,13 @@ low-little (suc n) (a ∷ l) b h =
     let low : (a + 256 * little n l) % 256 ≡ a = omega arith in
     let high : (a + 256 * little n l) / 256 ≡ little n l = omega arith in
     ap₂ _∷_ low (ap (lowBytes n) high ∙ low-little n l (λ i. b (suc i)) (le-of-suc-le-suc h))
+
+-- the same at an offset
+pub low-field : (l : List ℕ) → Bytes l → (n at : ℕ) → at + n ≤ length l → lowBytes n (field n at l) ≡ take n (drop at l)
+unfolding field Bytes
+low-field l bytes n at h =
+    low-little n (drop at l) (λ i. subst (λ (x : ℕ). x < 256) (sym (getD-drop at l i 0)) (bytes (at + i)))
+    (let e : length (drop at l) ≡ length l - at = length-drop at l in omega arith)
 
 -- the number that the bytes of a number write is this number
 pub little-low : (n x : ℕ) (l : List ℕ) → x < 256 ^ n → little n (lowBytes n x ++ l) ≡ x

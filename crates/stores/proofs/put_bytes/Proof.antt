@@ -1,4 +1,4 @@
--- `pnml_records::put_bytes` meets its contract. The invariant: the bytes that are left, stored from k on, lead where all lead from the first.
+-- `stores::put_bytes` meets its contract. The invariant: the bytes that are left, stored from k on, lead where all lead from the first.
 -- Assumes nothing.
 use Prim.Native.Nat.{_+_, _≤_}
 use mathlib.Core.Path.{_≡_, refl, sym, _∙_}
@@ -6,10 +6,10 @@ use native.Mathlib.Omega.{arith}
 use lib.ListN.{length, length-set}
 use lib.Seq.{sets}
 use borrow.Author.Needs.{needs}
-use Rattle.pnml_net.specs.Nets.{lowBytes}
-use Rattle.pnml_records.proofs.Stores.{next-byte, no-byte}
-use Rattle.pnml_records.proofs.put_bytes.Statement.{statement}
-use Rattle.pnml_records.proofs.put_bytes.Tie as tie
+use Rattle.stores.specs.Low.{lowBytes}
+use Rattle.stores.proofs.Stores.{next-byte, no-byte}
+use Rattle.stores.proofs.put_bytes.Statement.{statement}
+use Rattle.stores.proofs.put_bytes.Tie as tie
 
 abbrev Inv-loop : tie.InvT-loop
 Inv-loop room₀ at n x k₀ left₀ v₀ room k left v =

@@ -1,0 +1,2 @@
+-- The definitions that the contracts of `stores` cite.
+pub mod Low

@@ -1,0 +1,3 @@
+-- The answer of writing a tree, and what it is worth.
+pub mod Answer
+pub mod Theorem

@@ -1,0 +1,2 @@
+-- What serves the proof of `tree_put`.
+pub mod Serving

@@ -1,0 +1,4 @@
+-- Laws of the tree that is written.
+pub mod Steps
+pub mod Places
+pub mod Laid

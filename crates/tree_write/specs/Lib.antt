@@ -1,0 +1,2 @@
+-- The answer that the code gives.
+pub mod Result
