@@ -1,11 +1,11 @@
 -- Every node of a chosen tree follows its rule, whatever its trail. Assumes nothing.
 use mathlib.Core.Path.{_≡_, refl, sym, ap, _∙_, subst}
 use mathlib.Core.Bool.{Bool, true, false, cond, _&&_, _||_, true≢false}
-use mathlib.Core.List.{List, [], _∷_, _++_, map}
+use mathlib.Core.List.{List, [], _∷_, map}
 use Prim.Native.Nat.{ℕ, zero, suc, _+_, _≤_, _<_}
 use native.Mathlib.Nat.{not-suc-le-zero}
 use native.Mathlib.Omega.{arith}
-use lib.ListN.{length, length-append}
+use lib.ListN.{length}
 use lib.Dec.{eqb}
 use borrow.Author.Tests.{eq-eqb, le-leb, lt-ltb, not-true, not-false}
 use Rattle.bitset.specs.Sets.{within, passing}
@@ -27,7 +27,7 @@ use Rattle.tree_shape.specs.Trees.{Trees, roots}
 use Rattle.tree_shape.specs.Trees.Trees.{none, node}
 use Rattle.tree_shape.specs.Chosen.{forest, lowest, holdsBy, failsBy, claimBy, treeTo, treeOf, truthOf, chosen}
 use Rattle.tree_shape.specs.Serving.{passingFrom}
-use Rattle.tree_shape.proofs.Steps.{does, passing-from, chosen-true, chosen-false, tree-holds, tree-fails, truth-0, truth-1, truth-2, lowest-does, none-does, free-operator, free-left, free-right, roots-tree}
+use Rattle.tree_shape.proofs.Steps.{does, passing-from, passing-length, roots-forest, chosen-true, chosen-false, tree-holds, tree-fails, truth-0, truth-1, truth-2, lowest-does, none-does, free-operator, free-left, free-right, roots-tree}
 
 -- the sequents of the roots
 unfoldable pub sequents : Trees → List Sequent
@@ -78,11 +78,6 @@ sequents-forest N F g h [] = refl
 sequents-forest N F g h (t ∷ ts) =
     sequents-fails N F g (h t) (forest (λ t. treeOf N F 1 g (h t)) ts) ∙ ap (λ l. clean 1 g (h t) ∷ l) (sequents-forest N F g h ts)
 
-roots-forest : (N : Net) (F : List ℕ) (g : ℕ) (h : ℕ → ℕ) (l : List ℕ) → roots (forest (λ t. treeOf N F 1 g (h t)) l) ≡ length l
-unfolding forest roots
-roots-forest N F g h [] = refl
-roots-forest N F g h (t ∷ ts) = roots-tree N F 1 g (h t) (forest (λ t. treeOf N F 1 g (h t)) ts) ∙ ap suc (roots-forest N F g h ts)
-
 module _ (N : Net) (F : List ℕ) where
   -- a node with a clean sequent follows its rule, and its children are the sequents below it
   pub record Follows (side f m rule t : ℕ) (kids : Trees) : Type 0 where
@@ -123,19 +118,6 @@ pub record Admits (N : Net) (F : List ℕ) : Type 0 where
   pub some : 0 < N .transitions
   pub few : N .transitions ≤ 64
   pub posts : (t : ℕ) → t < N .transitions → within (N .places) (postOf N t) ≡ true
-
-passing-length : (f : ℕ → Bool) (n : ℕ) → length (passing f n) ≤ n
-unfolding passing
-passing-length f zero = omega arith
-passing-length f (suc n) =
-    let e : length (passing f n ++ cond (f n) (n ∷ []) []) ≡ length (passing f n) + length (cond (f n) (n ∷ []) []) = length-append (passing f n) _ in
-    let h : length (passing f n) ≤ n = passing-length f n in
-    let l : length (cond (f n) (n ∷ []) []) ≤ 1 = one (f n) in
-    omega arith
-  where
-    one : (b : Bool) → length (cond b (n ∷ []) []) ≤ 1
-    one true = omega arith
-    one false = omega arith
 
 module _ (N : Net) (F : List ℕ) (a : Admits N F) (f : ℕ) (inside : f < formulas F) (m : ℕ) (w : within (N .places) m ≡ true) where
   -- ---- what each rule asks and gives
