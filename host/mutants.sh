@@ -28,7 +28,7 @@ build() {
 build pristine
 DESK_LIB="$work/lib" cargo build --quiet --release -p compare
 export LD_LIBRARY_PATH="$work/lib"
-./target/release/compare $((cases / 10)) >out.log
+./target/release/compare "$cases" >out.log
 echo "without a mistake: $(tail -1 out.log)"
 
 noticed=0

@@ -1,6 +1,6 @@
 /* The desk's C interface: the tree check, the single firing and the category
- * labels of document 01; nets as PNML text and the writer of trees of document
- * 02. Archive: libdesk.a.
+ * labels of document 01; nets as PNML text, the writer of trees and the converter
+ * of category files of document 02. Archive: libdesk.a.
  *
  * Tables and texts are lent as a pointer and a length in bytes. They are only
  * read, and nothing of them is kept after the call. Room for what a call writes
@@ -51,7 +51,7 @@ enum {
     DESK_BAD_MARKING = 7,        /* marking beyond the places, asked formula not in the table */
     DESK_NO_TRANSITION = 8,      /* transition number not in the net */
     DESK_BAD_CATEGORIES_SIZE = 9, /* not 0 to 2,000 category records */
-    DESK_BAD_CATEGORY = 10,      /* a faulty category record */
+    DESK_BAD_CATEGORY = 10,      /* a faulty category record; one of kind 1 is, but in desk_convert_categories */
     DESK_SHORT_ROOM = 12,        /* the room is too short for what is to be written */
     DESK_BAD_PNML = 13,          /* the text is not of the shape that is read */
     DESK_HAS_UNTIL = 14,         /* the asked formula contains operator 4 or 5 */
@@ -92,7 +92,9 @@ uint32_t desk_fire(uint32_t places, uint64_t marking,
 
 /* Are the two category files in order? The answer is DESK_GRANTED with *record
  * 0, or 9 with *record 0, or 10 with the lowest faulty record. A fault of the
- * translation comes before one of the house file. */
+ * translation comes before one of the house file. A record of kind 1, which
+ * borrows its text, is faulty: such a file is converted first, once, with
+ * desk_convert_categories. */
 uint32_t desk_categories(const uint8_t *translation, size_t translation_len,
                          const uint8_t *house, size_t house_len,
                          uint64_t *record);
@@ -103,6 +105,19 @@ uint32_t desk_categories(const uint8_t *translation, size_t translation_len,
 void desk_label(const uint8_t *translation, size_t translation_len,
                 const uint8_t *house, size_t house_len, uint16_t action,
                 uint32_t *file, uint32_t *offset, uint32_t *length);
+
+/* A category file with borrowed labels, whose records may have kind 1, as one in
+ * which each record has its own text. The converted file is as long as the file
+ * and stands at the start of the room; desk_categories finds no fault in it. A
+ * record of kind 1 has become one of kind 0 with lender 0 and the text that it
+ * borrowed; the others are the same. The answer is DESK_GRANTED with *record 0
+ * and the number of records that had kind 1 in *rewritten. It is 9 with *record
+ * 0; or 10 with the lowest record that is faulty where kind 1 is allowed; or 12,
+ * exactly where the room is shorter than the file, with *record 0. Where the
+ * call refuses, *rewritten is 0. A file without kind 1 is written unchanged. */
+uint32_t desk_convert_categories(const uint8_t *file, size_t file_len,
+                                 uint8_t *room, size_t room_len,
+                                 uint64_t *record, uint64_t *rewritten);
 
 /* The net with its marking as PNML text, at the start of the room. The answer
  * is DESK_GRANTED with *record 0 and the bytes of the text in *length; or 1
@@ -193,6 +208,15 @@ static inline void desk_label_bytes(const uint8_t *translation, size_t translati
 {
     desk_label(desk_table(translation), translation_len,
                desk_table(house), house_len, action, file, offset, length);
+}
+
+/* desk_convert_categories, where a file or room of length 0 may be NULL. */
+static inline uint32_t desk_convert_categories_bytes(const uint8_t *file, size_t file_len,
+                                                     uint8_t *room, size_t room_len,
+                                                     uint64_t *record, uint64_t *rewritten)
+{
+    return desk_convert_categories(desk_table(file), file_len, desk_room(room), room_len,
+                                   record, rewritten);
 }
 
 /* desk_pnml_write, where a net or room of length 0 may be NULL. */

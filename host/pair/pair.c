@@ -48,13 +48,11 @@ static const bench_case cases[] = {
     {"fire-64", 'f', {"large.net"}, 63, 64, UINT64_MAX},
     {"categories", 'c', {"full", "full"}, 0, 0, 0},
     {"label-small", 'l', {"small.1", "small.2"}, 5, 0, 0},
-    {"label-first", 'l', {"full", "full"}, 0, 0, 0},
-    {"label-last", 'l', {"full", "full"}, 1999, 0, 0},
-    {"label-none", 'l', {"full", "full"}, 5000, 0, 0},
-    {"own-first", 'l', {"own", "own"}, 10, 0, 0},
-    {"own-middle", 'l', {"own", "own"}, 10000, 0, 0},
-    {"own-last", 'l', {"own", "own"}, 20000, 0, 0},
-    {"own-low", 'l', {"own", "own"}, 5, 0, 0},
+    {"label-first", 'l', {"full", "full"}, 10, 0, 0},
+    {"label-middle", 'l', {"full", "full"}, 10000, 0, 0},
+    {"label-last", 'l', {"full", "full"}, 20000, 0, 0},
+    {"label-low", 'l', {"full", "full"}, 5, 0, 0},
+    {"label-high", 'l', {"full", "full"}, 30000, 0, 0},
 };
 
 static void *need(void *found, const char *what)

@@ -19,7 +19,7 @@ gcc -std=c11 -O2 -Wall -Wextra -Werror -c "$host/pair/pair.c" -o "$work/pair.o"
 # renamed SIDE ARCHIVE
 renamed() {
     local names=()
-    for name in check fire categories label pnml_write pnml_read write_tree; do names+=(--redefine-sym "desk_$name=$1_desk_$name"); done
+    for name in check fire categories label pnml_write pnml_read write_tree convert_categories; do names+=(--redefine-sym "desk_$name=$1_desk_$name"); done
     objcopy "${names[@]}" "$2" "$work/$1.a"
 }
 renamed before "$before"
@@ -37,7 +37,7 @@ for i in 16 32 48 64; do
 done
 
 cases=("$@")
-[ $# -gt 0 ] || cases=(R trail chain and wide rings fire-r fire-64 categories label-small label-first label-last label-none own-first own-middle own-last own-low)
+[ $# -gt 0 ] || cases=(R trail chain and wide rings fire-r fire-64 categories label-small label-first label-middle label-last label-low label-high)
 echo "case              before, ns   ratio   least  largest"
 for case in "${cases[@]}"; do
     for program in "$work"/pair_*; do

@@ -431,46 +431,80 @@ static void firings(void)
     }
 }
 
+/* The most bytes that a text can have. */
+static const char LONGEST[] = "abcdefghijklmnopqrstuvwx";
+
+/* The house's labels. Action 2 has the text of 7, its own (kind 0) or borrowed (1). */
+static table house_labels(uint8_t kind)
+{
+    table t = empty_table(3 * DESK_CATEGORY_BYTES);
+    put_category(t.bytes, 1, 0, 0, "call");
+    put_category(t.bytes + 32, 2, kind, kind == 1 ? 7 : 0, kind == 1 ? "" : LONGEST);
+    put_category(t.bytes + 64, 7, 0, 0, LONGEST);
+    return t;
+}
+
+/* The translator's. Action 9 has the text of 1. */
+static table translated_labels(uint8_t kind)
+{
+    table t = empty_table(2 * DESK_CATEGORY_BYTES);
+    put_category(t.bytes, 1, 0, 0, "Ruf");
+    put_category(t.bytes + 32, 9, kind, kind == 1 ? 1 : 0, kind == 1 ? "" : "Ruf");
+    return t;
+}
+
 static void labels(void)
 {
-    table house = empty_table(3 * DESK_CATEGORY_BYTES);
-    table translation = empty_table(2 * DESK_CATEGORY_BYTES);
-    put_category(house.bytes, 1, 0, 0, "call");
-    put_category(house.bytes + 32, 2, 1, 7, "");
-    put_category(house.bytes + 64, 7, 0, 0, "abcdefghijklmnopqrstuvwx");
-    put_category(translation.bytes, 1, 0, 0, "Ruf");
-    put_category(translation.bytes + 32, 9, 1, 1, "");
-
+    table house = house_labels(0), translation = translated_labels(0);
     categories("two good files", translation, house, DESK_GRANTED, 0);
     categories("no files", NOTHING, NOTHING, DESK_GRANTED, 0);
     label("from the translation", translation, house, 1, DESK_TRANSLATION, 8, 3);
-    label("borrowed in the translation", translation, house, 9, DESK_TRANSLATION, 8, 3);
+    label("last of the translation", translation, house, 9, DESK_TRANSLATION, 40, 3);
     label("from the house", NOTHING, house, 1, DESK_HOUSE, 8, 4);
-    label("borrowed in the house", translation, house, 2, DESK_HOUSE, 72, 24);
+    label("inside the house", translation, house, 2, DESK_HOUSE, 40, 24);
     label("a text of 24", translation, house, 7, DESK_HOUSE, 72, 24);
     label("no record", translation, house, 3, 0, 0, 0);
     label("no files", NOTHING, NOTHING, 1, 0, 0, 0);
 
     table unsorted = changed(house, 64, 2), control = changed(house, 8, 0x1F);
     table spare = changed(house, 35, 1), kind = changed(house, 34, 2);
-    table gap = changed(house, 73, 0), no_lender = changed(house, 36, 2);
-    categories("action not above the one before", NOTHING, unsorted, DESK_BAD_CATEGORY, 1);
+    table gap = changed(house, 73, 0), lender = changed(house, 36, 7);
+    categories("action not above the one before", NOTHING, unsorted, DESK_BAD_CATEGORY, 2);
     categories("a control byte", NOTHING, control, DESK_BAD_CATEGORY, 0);
     categories("a spare byte", NOTHING, spare, DESK_BAD_CATEGORY, 1);
     categories("kind 2", NOTHING, kind, DESK_BAD_CATEGORY, 1);
     categories("a zero inside a text", NOTHING, gap, DESK_BAD_CATEGORY, 2);
-    categories("a lender of kind 1", NOTHING, no_lender, DESK_BAD_CATEGORY, 1);
+    categories("a lender", NOTHING, lender, DESK_BAD_CATEGORY, 1);
+    categories("kind 1 with a text", NOTHING, changed(house, 34, 1), DESK_BAD_CATEGORY, 1);
     categories("translation before house", gap, control, DESK_BAD_CATEGORY, 2);
     label("the house is faulty", translation, gap, 1, 0, 0, 0);
     label("the translation is faulty", gap, house, 1, 0, 0, 0);
+}
 
-    for (size_t len = 0; len <= 3 * DESK_CATEGORY_BYTES; len++) {
-        table other = resized(house, len);
-        uint32_t number = len % DESK_CATEGORY_BYTES != 0 ? DESK_BAD_CATEGORIES_SIZE
-                          : len == 64 ? DESK_BAD_CATEGORY : DESK_GRANTED;
-        categories("house size", translation, other, number, number == 10 ? 1 : 0);
-        label("house size", NOTHING, other, 1, number == 0 && len > 0,
-              number == 0 && len > 0 ? 8 : 0, number == 0 && len > 0 ? 4 : 0);
+/* A record of kind 1 is refused though its lender is good. */
+static void borrowed_labels(void)
+{
+    table house = house_labels(0), translation = translated_labels(0);
+    table lending = house_labels(1), lent = translated_labels(1);
+    categories("borrowed in the house", translation, lending, DESK_BAD_CATEGORY, 1);
+    categories("borrowed in the translation", lent, house, DESK_BAD_CATEGORY, 1);
+    categories("borrowed in both", lending, lent, DESK_BAD_CATEGORY, 1);
+    categories("a lower fault", NOTHING, changed(lending, 8, 0x1F), DESK_BAD_CATEGORY, 0);
+    categories("a fault of the lender", NOTHING, changed(lending, 73, 0), DESK_BAD_CATEGORY, 1);
+    categories("a lender of kind 1", NOTHING, changed(lending, 36, 2), DESK_BAD_CATEGORY, 1);
+    for (uint16_t action = 0; action <= 10; action++) {
+        label("borrowed in the house", translation, lending, action, 0, 0, 0);
+        label("borrowed in the translation", lent, house, action, 0, 0, 0);
+    }
+    for (uint8_t kind = 0; kind <= 1; kind++) {
+        for (size_t len = 0; len <= 3 * DESK_CATEGORY_BYTES; len++) {
+            table other = resized(house_labels(kind), len);
+            uint32_t number = len % DESK_CATEGORY_BYTES != 0 ? DESK_BAD_CATEGORIES_SIZE
+                              : kind == 1 && len >= 64 ? DESK_BAD_CATEGORY : DESK_GRANTED;
+            int found = number == 0 && len > 0;
+            categories("house size", translation, other, number, number == 10 ? 1 : 0);
+            label("house size", NOTHING, other, 1, found, found ? 8 : 0, found ? 4 : 0);
+        }
     }
 }
 
@@ -1105,6 +1139,160 @@ static void trees_at_the_limit(void)
     }
 }
 
+/* Converted category files */
+
+typedef uint32_t convert_call(const uint8_t *, size_t, uint8_t *, size_t, uint64_t *, uint64_t *);
+
+/* `rewritten` is 0 and `after` NOTHING where the call is refused. The function itself
+ * is called too where no pointer is NULL. */
+static void convert(const char *what, table file, size_t room_len, uint32_t number,
+                    uint64_t record, uint64_t rewritten, table after)
+{
+    for (size_t behind = 0; behind <= BEHIND; behind += BEHIND) {
+        uint8_t *room = filled(room_len + behind);
+        uint64_t found_record = UNWRITTEN;
+        uint64_t found_rewritten = UNWRITTEN;
+        convert_call *call = file.bytes == NULL || room == NULL || behind == 0
+                                 ? desk_convert_categories_bytes
+                                 : desk_convert_categories;
+        expect(what, "number", number,
+               call(file.bytes, file.len, room, room_len, &found_record, &found_rewritten));
+        expect(what, "record", record, found_record);
+        expect(what, "rewritten", rewritten, found_rewritten);
+        stands(what, room, room_len + behind, after);
+        free(room);
+    }
+}
+
+/* A refused conversion. */
+static void unconverted(const char *what, table file, size_t room_len, uint32_t number,
+                        uint64_t record)
+{
+    convert(what, file, room_len, number, record, 0, NOTHING);
+}
+
+/* A good file in rooms of several lengths. What it becomes is in order and final. */
+static void converts(const char *what, table file, uint64_t rewritten, table after)
+{
+    static const size_t more[4] = {0, 1, DESK_CATEGORY_BYTES, 1000};
+    for (size_t i = 0; i < 4; i++) {
+        convert(what, file, file.len + more[i], DESK_GRANTED, 0, rewritten, after);
+    }
+    for (size_t less = 1; less <= file.len; less += file.len - 1) {
+        unconverted(what, file, file.len - less, DESK_SHORT_ROOM, 0);
+    }
+    categories(what, after, after, DESK_GRANTED, 0);
+    convert(what, after, after.len, DESK_GRANTED, 0, 0, after);
+}
+
+typedef struct {
+    uint16_t action;
+    uint8_t kind;
+    uint16_t lender;
+    const char *text;
+} category;
+
+static table file_of(const category *rows, size_t count)
+{
+    table t = empty_table(count * DESK_CATEGORY_BYTES);
+    for (size_t i = 0; i < count; i++) {
+        put_category(t.bytes + i * DESK_CATEGORY_BYTES, rows[i].action, rows[i].kind,
+                     rows[i].lender, rows[i].text);
+    }
+    return t;
+}
+
+static void conversions(void)
+{
+    static const category lent[6] = {
+        {0, 1, 65535, ""}, {1, 0, 0, "x"}, {2, 1, 1, ""},
+        {260, 1, 65535, ""}, {65534, 1, 1, ""}, {65535, 0, 0, LONGEST},
+    };
+    static const category owned[6] = {
+        {0, 0, 0, LONGEST}, {1, 0, 0, "x"}, {2, 0, 0, "x"},
+        {260, 0, 0, LONGEST}, {65534, 0, 0, "x"}, {65535, 0, 0, LONGEST},
+    };
+    table house = house_labels(0), translation = translated_labels(0);
+    converts("a lender behind", house_labels(1), 1, house);
+    converts("a lender before", translated_labels(1), 1, translation);
+    converts("several borrowers", file_of(lent, 6), 4, file_of(owned, 6));
+    converts("no borrower", house, 0, house);
+    converts("no borrower in six", file_of(owned, 6), 0, file_of(owned, 6));
+    convert("nothing into nothing", NOTHING, 0, DESK_GRANTED, 0, 0, NOTHING);
+    convert("nothing into room", NOTHING, 100, DESK_GRANTED, 0, 0, NOTHING);
+    convert("an empty file", empty_table(0), 100, DESK_GRANTED, 0, 0, NOTHING);
+}
+
+/* The refusals come in the order 9, 10, 12; kind 1 is good where it is good by
+ * document 01. */
+static void conversions_refused(void)
+{
+    table good = house_labels(1), six = resized(good, 6 * DESK_CATEGORY_BYTES);
+    put_category(six.bytes + 96, 8, 1, 2, "");
+    static const struct {
+        const char *what;
+        size_t at;
+        uint8_t value;
+        uint64_t record;
+    } cases[] = {
+        {"kind 2", 34, 2, 1},
+        {"kind 0 with a lender", 34, 0, 1},
+        {"byte 3", 35, 1, 1},
+        {"byte 6", 38, 1, 1},
+        {"byte 7", 39, 128, 1},
+        {"a text beside the lender", 40, 'x', 1},
+        {"a text's last byte", 63, 1, 1},
+        {"no such lender", 36, 8, 1},
+        {"no such lender, high byte", 37, 7, 1},
+        {"a borrower of itself", 36, 2, 1},
+        {"a lender of kind 2", 66, 2, 1},
+        {"a lender of kind 1", 66, 1, 1},
+        {"action not above the one before", 32, 1, 1},
+        {"a lender with a spare byte", 67, 1, 2},
+        {"a lender with a lender", 68, 1, 2},
+        {"a lender with a gap", 73, 0, 2},
+        {"a lender with a control byte", 72, 0x1F, 2},
+        {"a lower record", 8, 0x7F, 0},
+    };
+    for (size_t room = 0; room <= 1000; room += 1000) {
+        for (size_t i = 0; i < sizeof cases / sizeof cases[0]; i++) {
+            table faulty = changed(good, cases[i].at, cases[i].value);
+            unconverted(cases[i].what, faulty, room, DESK_BAD_CATEGORY, cases[i].record);
+        }
+        unconverted("a borrower of a borrower", resized(six, 128), room, DESK_BAD_CATEGORY, 3);
+        unconverted("empty records", six, room, DESK_BAD_CATEGORY, 3);
+        unconverted("lender cut off", resized(good, 64), room, DESK_BAD_CATEGORY, 1);
+        unconverted("lower of two", changed(changed(good, 73, 0), 35, 1), room,
+                    DESK_BAD_CATEGORY, 1);
+        unconverted("part of a record", resized(changed(good, 34, 2), 95), room,
+                    DESK_BAD_CATEGORIES_SIZE, 0);
+        unconverted("a byte more", resized(good, 97), room, DESK_BAD_CATEGORIES_SIZE, 0);
+        unconverted("one byte", resized(good, 1), room, DESK_BAD_CATEGORIES_SIZE, 0);
+    }
+}
+
+/* All records but the last borrow from it. */
+static void conversions_at_the_limit(void)
+{
+    for (size_t records = 1999; records <= 2001; records++) {
+        table before = empty_table(records * DESK_CATEGORY_BYTES);
+        table after = empty_table(records * DESK_CATEGORY_BYTES);
+        for (size_t i = 0; i < records; i++) {
+            int last = i == records - 1;
+            size_t at = i * DESK_CATEGORY_BYTES;
+            put_category(before.bytes + at, i, last ? 0 : 1, last ? 0 : records - 1,
+                         last ? LONGEST : "");
+            put_category(after.bytes + at, i, 0, 0, LONGEST);
+        }
+        if (records <= DESK_CATEGORIES_MAX) {
+            converts("a full file", before, records - 1, after);
+        } else {
+            unconverted("too many", before, before.len, DESK_BAD_CATEGORIES_SIZE, 0);
+            unconverted("too many, no room", after, 0, DESK_BAD_CATEGORIES_SIZE, 0);
+        }
+    }
+}
+
 /* The tables of "R holds 2" as files, to be compared with the other places that
  * have them: 0 where they are written. */
 static int write_table(const char *folder, const char *name, table t)
@@ -1147,6 +1335,8 @@ int main(int argc, char **argv)
     give_back();
     labels();
     give_back();
+    borrowed_labels();
+    give_back();
     full_files();
     give_back();
     pnml_written();
@@ -1164,6 +1354,12 @@ int main(int argc, char **argv)
     trees_refused();
     give_back();
     trees_at_the_limit();
+    give_back();
+    conversions();
+    give_back();
+    conversions_refused();
+    give_back();
+    conversions_at_the_limit();
     give_back();
     if (failed > 0) {
         printf("%u checks passed, %u failed\n", passed, failed);

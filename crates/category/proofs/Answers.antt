@@ -2,7 +2,7 @@
 use mathlib.Core.Path.{_≡_, refl, sym, ap, _∙_}
 use mathlib.Core.Bool.{Bool, true, false, cond, _&&_}
 use mathlib.Core.List.{List}
-use Prim.Native.Nat.{ℕ, _≤_, _<_}
+use Prim.Native.Nat.{ℕ, _/_, _≤_, _<_}
 use native.Mathlib.Omega.{arith}
 use lib.ListN.{length}
 use lib.Dec.{eqb}
@@ -10,7 +10,7 @@ use borrow.Author.Tests.{eqb-true}
 use Rattle.tables.specs.declared.RecordCount.the-variants.{Whole, Refused}
 use Rattle.tables.specs.Lists.{first}
 use Rattle.tables.specs.Sizes.{sized, recordsOf}
-use Rattle.tables.specs.Faults.{Fault}
+use Rattle.tables.specs.Faults.{Fault, scanFault}
 use Rattle.tables.proofs.Counts.{sized-most, whole-count}
 use Rattle.tables.proofs.Scans.{scan-size, scan-record, scan-good, scan-passed}
 use Rattle.tables.proofs.Tests.{if-true, if-false, and-left, and-right}
@@ -19,24 +19,25 @@ use Rattle.category.specs.Faults.{recordBad, fileFault, faultless, check
 use Rattle.category.specs.declared.Checked.{Checked}
 use Rattle.category.specs.declared.Checked.the-variants.{Good, Size, Record}
 
--- one file: its length, a faulty record, none
+-- a file of `len` bytes whose records are tested by `bad`: its length, a faulty record, none
+module _ (bad : ℕ → Bool) (len : ℕ) where
+  pub told-size : recordsOf 32 0 2000 len ≡ Refused → checked Size ≡ scanFault 9 10 32 0 2000 bad len
+  unfolding checked
+  told-size e = scan-size 9 10 32 0 2000 bad len e
+
+  module _ (n b : ℕ) (e : recordsOf 32 0 2000 len ≡ Whole n) (p : b ≡ first bad (len / 32)) where
+    first-of : b ≡ first bad n
+    first-of = p ∙ ap (first bad) (sym (whole-count 32 0 2000 len n e))
+
+    pub told-record : b < n → checked (Record b) ≡ scanFault 9 10 32 0 2000 bad len
+    unfolding checked
+    told-record h = scan-record 9 10 32 0 2000 bad len n b e first-of h
+
+    pub told-good : n ≤ b → checked Good ≡ scanFault 9 10 32 0 2000 bad len
+    unfolding checked
+    told-good h = scan-good 9 10 32 0 2000 bad len n b e first-of h
+
 module _ (file : List ℕ) where
-  pub file-size : recordsOf 32 0 2000 (length file) ≡ Refused → checked Size ≡ fileFault file
-  unfolding checked fileFault
-  file-size e = scan-size 9 10 32 0 2000 (recordBad file) (length file) e
-
-  module _ (n b : ℕ) (e : recordsOf 32 0 2000 (length file) ≡ Whole n) (p : b ≡ first (recordBad file) (count file)) where
-    first-of : b ≡ first (recordBad file) n
-    first-of = p ∙ ap (first (recordBad file)) (sym (whole-count 32 0 2000 (length file) n e))
-
-    pub file-record : b < n → checked (Record b) ≡ fileFault file
-    unfolding checked fileFault
-    file-record h = scan-record 9 10 32 0 2000 (recordBad file) (length file) n b e first-of h
-
-    pub file-good : n ≤ b → checked Good ≡ fileFault file
-    unfolding checked fileFault
-    file-good h = scan-good 9 10 32 0 2000 (recordBad file) (length file) n b e first-of h
-
   -- what a faultless file has: at most 2,000 records, none of them faulty
   passes : faultless file ≡ true → (sized 32 0 2000 (length file) ≡ true) × ((k : ℕ) → k < count file → recordBad file k ≡ false)
   unfolding faultless fileFault

@@ -1,18 +1,18 @@
 -- The lookup that stops at a greater action finds what the earlier one found, wherever the actions ascend. Assumes nothing.
-use mathlib.Core.Path.{_≡_, refl, ap, ap₂, _∙_}
+use mathlib.Core.Path.{_≡_, refl, ap, ap₂}
 use mathlib.Core.Bool.{Bool, true, false, cond, _&&_}
 use mathlib.Core.List.{List, []}
 use Prim.Native.Nat.{ℕ, _+_, _*_}
 use lib.ListN.{take, drop}
-use lib.Dec.{eqb, ltb}
+use lib.Dec.{ltb}
 use Rattle.tables.specs.Below.{someBelow}
-use Rattle.category.specs.Records.{count, kindAt, lenderAt, textLength}
+use Rattle.category.specs.Records.{count, textLength}
 use Rattle.category.specs.Faults.{faultless}
-use Rattle.category.specs.Labels.{has, recordOf, sourceAt, sourceOf, textOffset, textSize, textOf, labelOf, placeIn, nowhere, placeOf}
-use Rattle.category.specs.Earlier.{earlierRecord, earlierLender, earlierSourceAt, earlierSource, earlierOffset, earlierSize, earlierText, earlierLabel, earlierPlaceIn, earlierPlace, AsBefore}
+use Rattle.category.specs.Labels.{has, recordOf, textOffset, textSize, textOf, labelOf, placeIn, nowhere, placeOf}
+use Rattle.category.specs.Earlier.{earlierRecord, earlierOffset, earlierSize, earlierText, earlierLabel, earlierPlaceIn, earlierPlace, AsBefore}
 use Rattle.category.specs.declared.LabelPlace.{LabelPlace}
 use Rattle.category.proofs.Ascent.{Rising, rising}
-use Rattle.category.proofs.Search.{record-first, lender-first}
+use Rattle.category.proofs.Search.{record-first}
 use Rattle.category.proofs.Answers.{first-good, second-good}
 use Rattle.category.proofs.Faultless.{rises}
 
@@ -22,23 +22,13 @@ module _ (file : List ℕ) (r : Rising file (count file)) (a : ℕ) where
   unfolding earlierRecord
   record-same = record-first r a
 
-  source-at-same : (i : ℕ) → sourceAt file i ≡ earlierSourceAt file i
-  unfolding sourceAt earlierSourceAt earlierLender
-  source-at-same i = ap (λ (x : ℕ). cond (eqb (kindAt file i) 1) x i) (lender-first r (lenderAt file i))
-
-  source-same : sourceOf file a ≡ earlierSource file a
-  unfolding sourceOf earlierSource has someBelow earlierRecord
-  source-same =
-      ap (λ (x : ℕ). cond (ltb x (count file)) (sourceAt file x) (count file)) record-same
-      ∙ ap (λ (x : ℕ). cond (has file a) x (count file)) (source-at-same (earlierRecord file a))
-
   offset-same : textOffset file a ≡ earlierOffset file a
-  unfolding textOffset earlierOffset
-  offset-same = ap (λ (x : ℕ). cond (ltb x (count file)) (x * 32 + 8) 0) source-same
+  unfolding textOffset earlierOffset has someBelow earlierRecord
+  offset-same = ap (λ (x : ℕ). cond (ltb x (count file)) (x * 32 + 8) 0) record-same
 
   size-same : textSize file a ≡ earlierSize file a
-  unfolding textSize earlierSize
-  size-same = ap (λ (x : ℕ). cond (ltb x (count file)) (textLength file x) 0) source-same
+  unfolding textSize earlierSize has someBelow earlierRecord
+  size-same = ap (λ (x : ℕ). cond (ltb x (count file)) (textLength file x) 0) record-same
 
   text-same : textOf file a ≡ earlierText file a
   unfolding textOf earlierText

@@ -37,6 +37,6 @@ module _ (translation house : List ℕ) (g : faultless translation ≡ true) (h 
         translated = from-first;
         untranslated = from-second;
         labelled = never-empty;
-        ownTranslated = λ i l k. from-first (actionAt translation i) (has-own translation g i l) ∙ text-own translation g i l k;
-        ownUntranslated = λ i l k e. from-second (actionAt house i) e ∙ text-own house h i l k;
+        ownTranslated = λ i l. from-first (actionAt translation i) (has-own translation g i l) ∙ text-own translation g i l;
+        ownUntranslated = λ i l e. from-second (actionAt house i) e ∙ text-own house h i l;
       }

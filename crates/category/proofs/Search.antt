@@ -7,14 +7,13 @@ use mathlib.Core.List.{List}
 use Prim.Native.Nat.{ℕ, _≤_, _<_}
 use native.Mathlib.Nat.{le-antisymm}
 use native.Mathlib.Omega.{arith}
-use lib.Dec.{eqb, ltb}
-use borrow.Author.Tests.{ltb-true, lt-ltb, le-ltb, lt-leb, le-leb, eqb-true, eq-eqb, ne-eqb}
+use lib.Dec.{ltb}
+use borrow.Author.Tests.{ltb-true, lt-ltb, le-ltb, lt-leb, le-leb, eqb-true, eq-eqb}
 use Rattle.tables.specs.Lists.{first}
 use Rattle.tables.proofs.Below.{lt-or-ge}
-use Rattle.tables.proofs.Tests.{and-left, and-right, and-intro}
 use Rattle.tables.proofs.Entries.{before-first, at-first, first-le, first-is}
-use Rattle.category.specs.Records.{count, actionAt, kindAt, hasAction, lendsAt}
-use Rattle.category.specs.Labels.{reaches, stopOf, recordOf, lenderOf}
+use Rattle.category.specs.Records.{count, actionAt, hasAction}
+use Rattle.category.specs.Labels.{reaches, stopOf, recordOf}
 use Rattle.category.proofs.Ascent.{Rising}
 
 module _ (file : List ℕ) (a : ℕ) where
@@ -54,27 +53,6 @@ module _ (file : List ℕ) (a : ℕ) where
       found p =
           absurd (true≢false (sym (p .1) ∙ before-first (hasAction file a) (count file) (recordOf file a) (omega (arith, p .0))))
 
-  -- the lender, by the record i that the search answers
-  module _ (i : ℕ) (e : i ≡ recordOf file a) where
-    pub lender-hit : kindAt file i ≡ 0 → i ≡ lenderOf file a
-    unfolding lenderOf
-    lender-hit k = rw (← e, eq-eqb (kindAt file i) 0 k)
-
-    pub lender-other : (kindAt file i ≡ 0 → ⊥) → count file ≡ lenderOf file a
-    unfolding lenderOf
-    lender-other d = rw (← e, ne-eqb (kindAt file i) 0 d)
-
-    pub lender-end : count file ≤ i → count file ≡ lenderOf file a
-    unfolding lenderOf
-    lender-end l = by (eqb (kindAt file (recordOf file a)) 0)
-      where
-        none : count file ≡ recordOf file a
-        none = ⊎-elim (λ p. absurd (omega (arith, p .0))) sym found-or-none
-
-        by : (b : Bool) → count file ≡ cond b (recordOf file a) (count file)
-        by true = none
-        by false = refl
-
 -- a file whose actions ascend
 module _ {file : List ℕ} (r : Rising file (count file)) where
   pub record-is : (i : ℕ) → i < count file → i ≡ recordOf file (actionAt file i)
@@ -100,32 +78,3 @@ module _ {file : List ℕ} (r : Rising file (count file)) where
 
         none : count file ≤ first (hasAction file a) (count file) → recordOf file a ≡ first (hasAction file a) (count file)
         none l = record-none file a l ∙ le-antisymm l (first-le (hasAction file a) (count file))
-
-    pub lender-first : lenderOf file a ≡ first (lendsAt file a) (count file)
-    unfolding lendsAt
-    lender-first = ⊎-elim some none (lt-or-ge j (count file))
-      where
-        i : ℕ
-        i = recordOf file a
-
-        j : ℕ
-        j = first (lendsAt file a) (count file)
-
-        some : j < count file → lenderOf file a ≡ j
-        some l =
-            let e : lendsAt file a j ≡ true = at-first (lendsAt file a) (count file) l in
-            sym
-            (lender-hit file a j (of-action j l (and-left (hasAction file a j) (eqb (kindAt file j) 0) e))
-            (eqb-true (kindAt file j) 0 (and-right (hasAction file a j) (eqb (kindAt file j) 0) e)))
-
-        none : count file ≤ j → lenderOf file a ≡ j
-        none m = sym (⊎-elim found end (found-or-none file a)) ∙ le-antisymm m (first-le (lendsAt file a) (count file))
-          where
-            end : i ≡ count file → count file ≡ lenderOf file a
-            end e = lender-end file a i refl (omega arith)
-
-            found : (i < count file) × (hasAction file a i ≡ true) → count file ≡ lenderOf file a
-            found p = lender-other file a i refl (λ k. true≢false (sym (lends k) ∙ before-first (lendsAt file a) (count file) i (omega (arith, p .0))))
-              where
-                lends : kindAt file i ≡ 0 → lendsAt file a i ≡ true
-                lends k = and-intro (hasAction file a i) (eqb (kindAt file i) 0) (p .1) (eq-eqb (kindAt file i) 0 k)

@@ -1,5 +1,5 @@
--- The record that has the text of an action, and the part of the file that is its text, which lies inside the file. Assumes nothing.
-use mathlib.Core.Path.{_≡_, refl, sym, _∙_}
+-- The part of a file that is the text of an action, by the record which the search answers; it lies inside the file. Assumes nothing.
+use mathlib.Core.Path.{_≡_, refl, sym}
 use mathlib.Core.Bool.{Bool, true, false, cond}
 use mathlib.Core.List.{List}
 use Prim.Native.Nat.{ℕ, _+_, _-_, _*_, _≤_, _<_}
@@ -7,37 +7,18 @@ use native.Mathlib.Omega.{arith}
 use lib.ListN.{length, drop, length-drop}
 use lib.Seq.{length-take-le}
 use lib.Dec.{eqb, ltb}
-use borrow.Author.Tests.{lt-ltb, le-ltb, eq-eqb, ne-eqb, ltb-true, ltb-false}
+use borrow.Author.Tests.{lt-ltb, le-ltb, ltb-true, ltb-false}
 use Rattle.tables.specs.Below.{someBelow}
 use Rattle.tables.specs.Lists.{first}
-use Rattle.tables.proofs.Tests.{if-true, if-false}
 use Rattle.tables.proofs.Entries.{first-le}
 use Rattle.tables.proofs.Counts.{record-inside}
-use Rattle.category.specs.Records.{count, kindAt, lenderAt, textByte, textLength, hasAction}
-use Rattle.category.specs.Labels.{has, recordOf, lenderOf, sourceAt, sourceOf, textOffset, textSize, textOf}
+use Rattle.category.specs.Records.{count, textByte, textLength, hasAction}
+use Rattle.category.specs.Labels.{has, recordOf, textOffset, textSize, textOf}
 use Rattle.category.proofs.Search.{record-none}
 
 module _ (file : List ℕ) (a : ℕ) where
-  -- the source, by the record i that the search answers
-  module _ (i : ℕ) (e : i ≡ recordOf file a) where
-    pub source-none : count file ≤ i → count file ≡ sourceOf file a
-    unfolding sourceOf
-    source-none l = rw (← e, le-ltb i (count file) l)
-
-    source-at : i < count file → sourceAt file i ≡ sourceOf file a
-    unfolding sourceOf
-    source-at l = rw (← e, lt-ltb i (count file) l)
-
-    pub source-lender : (r : ℕ) → i < count file → kindAt file i ≡ 1 → r ≡ lenderOf file (lenderAt file i) → r ≡ sourceOf file a
-    unfolding sourceAt
-    source-lender r l k p = p ∙ sym (if-true _ _ _ (eq-eqb (kindAt file i) 1 k)) ∙ source-at l
-
-    pub source-own : i < count file → (kindAt file i ≡ 1 → ⊥) → i ≡ sourceOf file a
-    unfolding sourceAt
-    source-own l k = sym (if-false _ _ _ (ne-eqb (kindAt file i) 1 k)) ∙ source-at l
-
   -- the part, by the record
-  module _ (i : ℕ) (e : i ≡ sourceOf file a) where
+  module _ (i : ℕ) (e : i ≡ recordOf file a) where
     pub offset-in : i < count file → i * 32 + 8 ≡ textOffset file a
     unfolding textOffset
     offset-in l = rw (← e, lt-ltb i (count file) l)
@@ -60,7 +41,7 @@ text-length-le file i = first-le (λ j. eqb (textByte file i j) 0) 24
 
 pub part-inside : (file : List ℕ) (a : ℕ) → textOffset file a + textSize file a ≤ length file
 unfolding textOffset textSize
-part-inside file a = by (sourceOf file a) (ltb (sourceOf file a) (count file)) refl
+part-inside file a = by (recordOf file a) (ltb (recordOf file a) (count file)) refl
   where
     by : (i : ℕ) (b : Bool) → ltb i (count file) ≡ b → cond b (i * 32 + 8) 0 + cond b (textLength file i) 0 ≤ length file
     by i true e = omega (arith, record-inside 32 (length file) i (ltb-true i (count file) e), text-length-le file i)
@@ -77,7 +58,7 @@ length-text file a = length-take-le (textSize file a) (drop (textOffset file a) 
 -- no record, no text
 pub lacks : (file : List ℕ) (a : ℕ) → has file a ≡ false → 0 ≡ textSize file a
 unfolding has someBelow
-lacks file a e = size-out file a (count file) (source-none file a (count file) (sym none) (omega arith)) (omega arith)
+lacks file a e = size-out file a (count file) (sym none) (omega arith)
   where
     none : recordOf file a ≡ count file
     none = record-none file a (ltb-false (first (hasAction file a) (count file)) (count file) e)

@@ -1,18 +1,14 @@
--- The text of a record, byte by byte: what the two runs of a text of its own say together, and three zero words as a text that is all
--- zero. Assumes nothing.
-use mathlib.Core.Path.{_≡_, refl, sym, ap, ap₂, _∙_, subst}
+-- The text of a record, byte by byte: what the two runs say together. Assumes nothing.
+use mathlib.Core.Path.{_≡_, sym, ap, ap₂, _∙_, subst}
 use mathlib.Core.Bool.{Bool, true, false, not, _&&_, or-true, or-false, false≢true}
 use mathlib.Core.Logic.{⊎-elim}
 use mathlib.Core.List.{List}
-use Prim.Native.Nat.{ℕ, zero, suc, _+_, _-_, _*_, _≤_, _<_, zero-le}
-use native.Mathlib.Nat.{not-suc-le-zero, le-of-suc-le-suc, eq-or-lt-of-le, zero-add}
+use Prim.Native.Nat.{ℕ, zero, suc, _+_, _-_, _≤_, _<_, zero-le}
+use native.Mathlib.Nat.{le-of-suc-le-suc, eq-or-lt-of-le, zero-add}
 use native.Mathlib.Numerals.{add-one}
 use native.Mathlib.Omega.{arith}
-use lib.ListN.{getD, drop}
-use lib.Seq.{getD-drop}
 use lib.Dec.{eqb, leb}
-use borrow.Author.Tests.{lt-ltb, le-ltb, le-leb, leb-true, eq-eqb, eqb-true, not-false}
-use Rattle.tables.specs.Bytes.{little, field}
+use borrow.Author.Tests.{lt-ltb, le-ltb, le-leb, leb-true, eqb-true, not-false}
 use Rattle.tables.specs.Below.{everyBelow, noneBelow}
 use Rattle.tables.specs.Lists.{first}
 use Rattle.tables.proofs.Entries.{before-first, at-first}
@@ -44,7 +40,7 @@ wrong-before : (size j b : ℕ) → j < size → wrongByte size j b ≡ not (goo
 unfolding wrongByte
 wrong-before size j b l = rw (lt-ltb j size l)
 
-wrong-after : (size j b : ℕ) → size ≤ j → wrongByte size j b ≡ not (eqb b 0)
+pub wrong-after : (size j b : ℕ) → size ≤ j → wrongByte size j b ≡ not (eqb b 0)
 unfolding wrongByte
 wrong-after size j b l = rw (le-ltb j size l)
 
@@ -142,77 +138,3 @@ module _ (t : ℕ → ℕ) where
 pub text-good : (file : List ℕ) (i : ℕ) → (goodByte (textByte file i 0) && runFollows file i 0 && runFollows file i 7) ≡ textGood file i
 unfolding textGood textIs textLength runFollows
 text-good file i = runs-good (textByte file i)
-
--- ---- zero bytes
-
-little-zero : (n : ℕ) (l : List ℕ) → little n l ≡ 0 → (k : ℕ) → k < n → getD l k 0 ≡ 0
-unfolding little
-little-zero zero l e k m = absurd (not-suc-le-zero m)
-little-zero (suc n) l e zero m = omega arith
-little-zero (suc n) l e (suc k) m =
-    let z : little n (drop 1 l) ≡ 0 = omega arith in
-    let q : 1 + k ≡ suc k = omega arith in
-    subst (λ (x : ℕ). getD l x 0 ≡ 0) q (sym (getD-drop 1 l k 0) ∙ little-zero n (drop 1 l) z k (le-of-suc-le-suc m))
-
-zero-little : (n : ℕ) (l : List ℕ) → ((k : ℕ) → k < n → getD l k 0 ≡ 0) → little n l ≡ 0
-unfolding little
-zero-little zero l h = refl
-zero-little (suc n) l h =
-    let a : getD l 0 0 ≡ 0 = h 0 (omega arith) in
-    let b : little n (drop 1 l) ≡ 0 = zero-little n (drop 1 l) (λ k m. getD-drop 1 l k 0 ∙ h (1 + k) (omega arith)) in
-    omega arith
-
--- the n bytes from p on, among those from `at` on
-field-zero : (n p at : ℕ) (l : List ℕ) → field n p l ≡ 0 → (j : ℕ) → p ≤ at + j → at + j < p + n → getD l (at + j) 0 ≡ 0
-unfolding field
-field-zero n p at l e j a b =
-    let q : p + (at + j - p) ≡ at + j = omega arith in
-    subst (λ (x : ℕ). getD l x 0 ≡ 0) q (sym (getD-drop p l (at + j - p) 0) ∙ little-zero n (drop p l) e (at + j - p) (omega arith))
-
-zero-field : (n p at m : ℕ) (l : List ℕ) → ((j : ℕ) → j < m → getD l (at + j) 0 ≡ 0) → at ≤ p → p + n ≤ at + m → field n p l ≡ 0
-unfolding field
-zero-field n p at m l h a b = zero-little n (drop p l) (λ k q. getD-drop p l k 0 ∙ each k q)
-  where
-    each : (k : ℕ) → k < n → getD l (p + k) 0 ≡ 0
-    each k q = let e : at + (p + k - at) ≡ p + k = omega arith in subst (λ (x : ℕ). getD l x 0 ≡ 0) e (h (p + k - at) (omega arith))
-
-module _ (file : List ℕ) (i : ℕ) where
-  abbrev start : ℕ
-  start = i * 32 + 8
-
-  abbrev word : ℕ → Bool
-  word p = eqb (field 8 p file) 0
-
-  words-zero : word start ≡ true → word (start + 8) ≡ true → word (start + 16) ≡ true → (j : ℕ) → j < 24 → textByte file i j ≡ 0
-  unfolding textByte
-  words-zero a b c j l =
-      ⊎-elim
-      (λ p. field-zero 8 start start file (eqb-true _ _ a) j (omega arith) (omega arith))
-      (λ p. ⊎-elim
-      (λ q. field-zero 8 (start + 8) start file (eqb-true _ _ b) j (omega arith) (omega arith))
-      (λ q. field-zero 8 (start + 16) start file (eqb-true _ _ c) j (omega arith) (omega arith))
-      (lt-or-ge j 16))
-      (lt-or-ge j 8)
-
-  zero-word : ((j : ℕ) → j < 24 → textByte file i j ≡ 0) → (p : ℕ) → start ≤ p → p ≤ start + 16 → word p ≡ true
-  unfolding textByte
-  zero-word h p a b = eq-eqb _ _ (zero-field 8 p start 24 file h a (omega arith))
-
-  pub zero-words : (word start && word (start + 8) && word (start + 16)) ≡ textIs file i 0
-  unfolding textIs
-  zero-words = same-test _ _ to from
-    where
-      to : (word start && word (start + 8) && word (start + 16)) ≡ true → noneBelow (λ j. wrongByte 0 j (textByte file i j)) 24 ≡ true
-      to e =
-          let p : (word start && word (start + 8)) ≡ true = and-left (word start && word (start + 8)) (word (start + 16)) e in
-          let z : (j : ℕ) → j < 24 → textByte file i j ≡ 0 =
-          words-zero (and-left (word start) (word (start + 8)) p) (and-right (word start) (word (start + 8)) p)
-          (and-right (word start && word (start + 8)) (word (start + 16)) e) in
-          none-is (λ j. wrongByte 0 j (textByte file i j)) 24 (λ j l. wrong-after 0 j _ zero-le ∙ ap not (eq-eqb _ _ (z j l)))
-
-      from : noneBelow (λ j. wrongByte 0 j (textByte file i j)) 24 ≡ true → (word start && word (start + 8) && word (start + 16)) ≡ true
-      from e =
-          let z : (j : ℕ) → j < 24 → textByte file i j ≡ 0 =
-          λ j l. eqb-true _ _ (not-false _ (sym (wrong-after 0 j _ zero-le) ∙ none-at (λ j. wrongByte 0 j (textByte file i j)) 24 j e l)) in
-          ap₂ _&&_ (ap₂ _&&_ (zero-word z start (omega arith) (omega arith)) (zero-word z (start + 8) (omega arith) (omega arith)))
-          (zero-word z (start + 16) (omega arith) (omega arith))

@@ -1,13 +1,12 @@
 -- The lookup as it was defined before document 02's F-3, which read on to the file's end, and what that request asks: "Labels are as
--- before". No contract cites the earlier definition. Assumes nothing.
+-- before". Borrowed texts, which F-6 ended, stand in `category_borrowed`. No contract cites the earlier definition. Assumes nothing.
 use Prim.Native.Nat.{ℕ, _+_, _*_, _<_}
 use mathlib.Core.Path.{_≡_}
 use mathlib.Core.Bool.{true, cond, _&&_}
 use mathlib.Core.List.{List, []}
 use lib.ListN.{take, drop}
-use lib.Dec.{eqb, ltb}
 use Rattle.tables.specs.Lists.{first}
-use Rattle.category.specs.Records.{recordSize, textStart, count, kindAt, lenderAt, textLength, hasAction, lendsAt}
+use Rattle.category.specs.Records.{recordSize, textStart, count, textLength, hasAction}
 use Rattle.category.specs.Faults.{ascends, faultless}
 use Rattle.category.specs.Labels.{has, textOffset, textOf, labelOf, nowhere, placeOf}
 use Rattle.category.specs.declared.LabelPlace.{LabelPlace}
@@ -18,25 +17,13 @@ use Rattle.category.specs.declared.LabelPlace.{LabelPlace}
 unfoldable pub earlierRecord : List ℕ → ℕ → ℕ
 earlierRecord file a = first (hasAction file a) (count file)
 
--- the lowest record that lends the text of the action a; the number of records where there is none
-unfoldable pub earlierLender : List ℕ → ℕ → ℕ
-earlierLender file a = first (lendsAt file a) (count file)
-
--- the record that record i takes its text from: at kind byte 1 that of the lender, else itself
-unfoldable pub earlierSourceAt : List ℕ → ℕ → ℕ
-earlierSourceAt file i = cond (eqb (kindAt file i) 1) (earlierLender file (lenderAt file i)) i
-
--- the record that has the text of the action a; the number of records where there is none
-unfoldable pub earlierSource : List ℕ → ℕ → ℕ
-earlierSource file a = cond (has file a) (earlierSourceAt file (earlierRecord file a)) (count file)
-
--- where that text starts in the file: 0 where there is none
+-- where its text starts in the file: 0 where there is none
 unfoldable pub earlierOffset : List ℕ → ℕ → ℕ
-earlierOffset file a = cond (ltb (earlierSource file a) (count file)) (earlierSource file a * recordSize + textStart) 0
+earlierOffset file a = cond (has file a) (earlierRecord file a * recordSize + textStart) 0
 
 -- its length: 0 where there is none
 unfoldable pub earlierSize : List ℕ → ℕ → ℕ
-earlierSize file a = cond (ltb (earlierSource file a) (count file)) (textLength file (earlierSource file a)) 0
+earlierSize file a = cond (has file a) (textLength file (earlierRecord file a)) 0
 
 -- the text of the action a in one file
 unfoldable pub earlierText : List ℕ → ℕ → List ℕ

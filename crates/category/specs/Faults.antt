@@ -1,13 +1,13 @@
--- Which category records are faulty, and the number and the record that a check gives. Document 01: "Actions strictly ascend", the two
--- kinds, and refusals 9 and 10. Assumes nothing.
+-- Which category records are faulty, and the number and the record that a check gives. Document 01: "Actions strictly ascend", kind 0, and
+-- refusals 9 and 10. Document 02, F-6: "10 for any kind 1 record outside the converter". Assumes nothing.
 use Prim.Native.Nat.{ℕ, _-_}
-use mathlib.Core.Bool.{Bool, false, not, cond, _&&_, _||_}
+use mathlib.Core.Bool.{Bool, not, cond, _&&_, _||_}
 use mathlib.Core.List.{List}
 use lib.ListN.{length}
 use lib.Dec.{eqb, leb, ltb}
 use Rattle.tables.specs.Below.{noneBelow}
 use Rattle.tables.specs.Faults.{Fault, noFault, fault, orElse, scanFault}
-use Rattle.category.specs.Records.{recordSize, textRoom, actionAt, kindAt, lenderAt, textByte, spareZero, textLength, lends}
+use Rattle.category.specs.Records.{recordSize, textRoom, actionAt, kindAt, lenderAt, textByte, spareZero, textLength}
 use Rattle.category.specs.declared.Checked.{Checked}
 use Rattle.category.specs.declared.Checked.the-variants.{Good, Size, Record}
 
@@ -31,21 +31,13 @@ textIs file i size = noneBelow (λ j. wrongByte size j (textByte file i j)) text
 unfoldable pub textGood : List ℕ → ℕ → Bool
 textGood file i = leb 1 (textLength file i) && textIs file i (textLength file i)
 
--- kind 0: the lender is 0, and the text is good
+-- what kind 0 asks: the lender is 0, and the text is good
 unfoldable pub ownGood : List ℕ → ℕ → Bool
 ownGood file i = eqb (lenderAt file i) 0 && textGood file i
 
--- kind 1: the text is all zero, and the lender is the action of a record of kind byte 0
-unfoldable pub borrowGood : List ℕ → ℕ → Bool
-borrowGood file i = textIs file i 0 && lends file (lenderAt file i)
-
--- what the kind asks; no other kind is good
-unfoldable pub kindGood : List ℕ → ℕ → Bool
-kindGood file i = cond (eqb (kindAt file i) 0) (ownGood file i) (cond (eqb (kindAt file i) 1) (borrowGood file i) false)
-
--- record i is faulty
+-- record i is faulty: a kind byte that is not 0 is a fault
 unfoldable pub recordBad : List ℕ → ℕ → Bool
-recordBad file i = not (ascends file i && spareZero file i && kindGood file i)
+recordBad file i = not (ascends file i && spareZero file i && eqb (kindAt file i) 0 && ownGood file i)
 
 -- the check of one file: 9 where its length is not 0 to 2,000 records, else 10 with the lowest faulty record
 unfoldable pub fileFault : List ℕ → Fault

@@ -8,7 +8,7 @@ use lib.ListN.{take, drop}
 use lib.Dec.{eqb, leb, ltb}
 use Rattle.tables.specs.Below.{someBelow}
 use Rattle.tables.specs.Lists.{first}
-use Rattle.category.specs.Records.{recordSize, textStart, count, actionAt, kindAt, lenderAt, textLength, hasAction}
+use Rattle.category.specs.Records.{recordSize, textStart, count, actionAt, textLength, hasAction}
 use Rattle.category.specs.Faults.{faultless}
 use Rattle.category.specs.declared.LabelPlace.{LabelPlace}
 
@@ -32,27 +32,15 @@ stopOf file a = first (reaches file a) (count file)
 unfoldable pub recordOf : List ℕ → ℕ → ℕ
 recordOf file a = cond (ltb (stopOf file a) (count file) && hasAction file a (stopOf file a)) (stopOf file a) (count file)
 
--- the record that lends the text of the action a: what the search answers, if its kind byte is 0; else the number of records
-unfoldable pub lenderOf : List ℕ → ℕ → ℕ
-lenderOf file a = cond (eqb (kindAt file (recordOf file a)) 0) (recordOf file a) (count file)
-
--- the record that record i takes its text from: at kind byte 1 that of the lender, else itself
-unfoldable pub sourceAt : List ℕ → ℕ → ℕ
-sourceAt file i = cond (eqb (kindAt file i) 1) (lenderOf file (lenderAt file i)) i
-
--- the record that has the text of the action a; the number of records where there is none
-unfoldable pub sourceOf : List ℕ → ℕ → ℕ
-sourceOf file a = cond (ltb (recordOf file a) (count file)) (sourceAt file (recordOf file a)) (count file)
-
--- where that text starts in the file: 0 where there is none
+-- where the text of the action a starts in the file: 0 where the search answers nothing
 unfoldable pub textOffset : List ℕ → ℕ → ℕ
-textOffset file a = cond (ltb (sourceOf file a) (count file)) (sourceOf file a * recordSize + textStart) 0
+textOffset file a = cond (ltb (recordOf file a) (count file)) (recordOf file a * recordSize + textStart) 0
 
--- its length: 0 where there is none
+-- its length: 0 where the search answers nothing
 unfoldable pub textSize : List ℕ → ℕ → ℕ
-textSize file a = cond (ltb (sourceOf file a) (count file)) (textLength file (sourceOf file a)) 0
+textSize file a = cond (ltb (recordOf file a) (count file)) (textLength file (recordOf file a)) 0
 
--- the text of the action a in one file, in any condition: empty where there is none
+-- the text of the action a in one file, in any condition: that of the record which the search answers, whatever its kind byte; else empty
 unfoldable pub textOf : List ℕ → ℕ → List ℕ
 textOf file a = take (textSize file a) (drop (textOffset file a) file)
 

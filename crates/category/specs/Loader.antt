@@ -5,7 +5,7 @@ use mathlib.Core.Bool.{true, false}
 use mathlib.Core.Logic.{_⊎_}
 use mathlib.Core.List.{List}
 use lib.ListN.{length}
-use Rattle.category.specs.Records.{count, actionAt, kindAt}
+use Rattle.category.specs.Records.{count, actionAt}
 use Rattle.category.specs.Labels.{ownText, has, textOf, labelOf}
 
 -- the labels from two faultless files: `labels-of` of proofs/Loader.antt shows that they are so
@@ -16,8 +16,7 @@ pub record LabelsOf (translation house : List ℕ) : Type 0 where
   pub untranslated : (a : ℕ) → has translation a ≡ false → labelOf translation house a ≡ textOf house a
   -- a label is never empty for an action that has a record in either file
   pub labelled : (a : ℕ) → (has translation a ≡ true) ⊎ (has house a ≡ true) → 0 < length (labelOf translation house a)
-  -- the label of an action with a text of its own is exactly the text of its record, in the translation and in the house file
-  pub ownTranslated : (i : ℕ) → i < count translation → kindAt translation i ≡ 0
-      → labelOf translation house (actionAt translation i) ≡ ownText translation i
-  pub ownUntranslated : (i : ℕ) → i < count house → kindAt house i ≡ 0 → has translation (actionAt house i) ≡ false
+  -- the label of an action is exactly the text of its record, in the translation and in the house file
+  pub ownTranslated : (i : ℕ) → i < count translation → labelOf translation house (actionAt translation i) ≡ ownText translation i
+  pub ownUntranslated : (i : ℕ) → i < count house → has translation (actionAt house i) ≡ false
       → labelOf translation house (actionAt house i) ≡ ownText house i

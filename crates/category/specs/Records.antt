@@ -6,7 +6,6 @@ use mathlib.Core.List.{List}
 use lib.ListN.{length, getD}
 use lib.Dec.{eqb}
 use Rattle.tables.specs.Bytes.{field}
-use Rattle.tables.specs.Below.{someBelow}
 use Rattle.tables.specs.Lists.{first}
 
 -- the bytes of a record
@@ -29,11 +28,11 @@ count file = length file / recordSize
 unfoldable pub actionAt : List ℕ → ℕ → ℕ
 actionAt file i = field 2 (i * recordSize) file
 
--- its kind byte
+-- its kind byte: 0, since document 02 (F-6) retired kind 1, which borrowed a text
 unfoldable pub kindAt : List ℕ → ℕ → ℕ
 kindAt file i = getD file (i * recordSize + 2) 0
 
--- its lender
+-- its lender: 0, as only kind 1 had one
 unfoldable pub lenderAt : List ℕ → ℕ → ℕ
 lenderAt file i = field 2 (i * recordSize + 4) file
 
@@ -52,11 +51,3 @@ textLength file i = first (λ j. eqb (textByte file i j) 0) textRoom
 -- record i has the action a
 unfoldable pub hasAction : List ℕ → ℕ → ℕ → Bool
 hasAction file a i = eqb (actionAt file i) a
-
--- record i has the action a and the kind byte 0, so that records of kind 1 can borrow its text
-unfoldable pub lendsAt : List ℕ → ℕ → ℕ → Bool
-lendsAt file a i = hasAction file a i && eqb (kindAt file i) 0
-
--- some record of the file, faulty or not, lends the text of the action a
-unfoldable pub lends : List ℕ → ℕ → Bool
-lends file a = someBelow (lendsAt file a) (count file)

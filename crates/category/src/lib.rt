@@ -10,13 +10,13 @@ ghost use Rattle.category.specs.Serving as serving;
 use tables::RecordCount;
 
 // The bytes of a record.
-const RECORD: usize = 32;
+pub const RECORD: usize = 32;
 
 // Where its text starts.
-const TEXT_START: usize = 8;
+pub const TEXT_START: usize = 8;
 
 // The bytes that its text has, with the padding.
-const TEXT_ROOM: usize = 24;
+pub const TEXT_ROOM: usize = 24;
 
 // The answer of a check. `checked` of specs/ has document 01's numbers.
 pub enum Checked {
@@ -44,10 +44,10 @@ struct TextPart {
     size: usize,
 }
 
-// ---- fields of a record
+// ---- fields of a record, also for the converter of files with borrowed texts
 
 // A record's action.
-fn action_at(file: &[u8], i: usize) -> u16
+pub fn action_at(file: &[u8], i: usize) -> u16
     requires { ⌜ i < records.count (now file) ⌝ }
     ensures { λ r. ⌜ r ≡ records.actionAt (now (file .entry)) i ⌝ }
 {
@@ -55,7 +55,7 @@ fn action_at(file: &[u8], i: usize) -> u16
 }
 
 // Its kind byte.
-fn kind_at(file: &[u8], i: usize) -> u8
+pub fn kind_at(file: &[u8], i: usize) -> u8
     requires { ⌜ i < records.count (now file) ⌝ }
     ensures { λ r. ⌜ r ≡ records.kindAt (now (file .entry)) i ⌝ }
 {
@@ -63,7 +63,7 @@ fn kind_at(file: &[u8], i: usize) -> u8
 }
 
 // Its lender.
-fn lender_at(file: &[u8], i: usize) -> u16
+pub fn lender_at(file: &[u8], i: usize) -> u16
     requires { ⌜ i < records.count (now file) ⌝ }
     ensures { λ r. ⌜ r ≡ records.lenderAt (now (file .entry)) i ⌝ }
 {
@@ -79,7 +79,7 @@ fn text_byte(file: &[u8], i: usize, j: usize) -> u8
 }
 
 // Whether its bytes that have no use are zero.
-fn spare_zero(file: &[u8], i: usize) -> bool
+pub fn spare_zero(file: &[u8], i: usize) -> bool
     requires { ⌜ i < records.count (now file) ⌝ }
     ensures { λ r. ⌜ r ≡ records.spareZero (now (file .entry)) i ⌝ }
 {
@@ -89,7 +89,7 @@ fn spare_zero(file: &[u8], i: usize) -> bool
 }
 
 // Whether it has an action.
-fn has_action(file: &[u8], action: u16, i: usize) -> bool
+pub fn has_action(file: &[u8], action: u16, i: usize) -> bool
     requires { ⌜ i < records.count (now file) ⌝ }
     ensures { λ r. ⌜ r ≡ records.hasAction (now (file .entry)) action i ⌝ }
 {
@@ -102,14 +102,6 @@ fn reaches(file: &[u8], action: u16, i: usize) -> bool
     ensures { λ r. ⌜ r ≡ labels.reaches (now (file .entry)) action i ⌝ }
 {
     action <= action_at(file, i)
-}
-
-// Whether it lends the text of an action.
-fn lends_at(file: &[u8], action: u16, i: usize) -> bool
-    requires { ⌜ i < records.count (now file) ⌝ }
-    ensures { λ r. ⌜ r ≡ records.lendsAt (now (file .entry)) action i ⌝ }
-{
-    has_action(file, action, i) & (kind_at(file, i) == 0)
 }
 
 // ---- searches
@@ -158,24 +150,8 @@ fn find(file: &[u8], action: u16) -> usize
     n
 }
 
-// The lowest record from a number on that lends the text of an action, or the number of records.
-fn find_lender(file: &[u8], action: u16, from: usize) -> usize
-    requires { ⌜ from ≤ records.count (now file) ⌝ }
-    ensures { λ r. ⌜ serving.LowestFrom (records.lendsAt (now (file .entry)) action) from (records.count (now (file .entry))) r ⌝ }
-{
-    let n = file.len() / RECORD;
-    let mut i = from;
-    while i < n {
-        if lends_at(file, action, i) {
-            return i;
-        }
-        i += 1;
-    }
-    i
-}
-
 // Whether a record's action is above that of the record before it.
-fn ascends(file: &[u8], i: usize) -> bool
+pub fn ascends(file: &[u8], i: usize) -> bool
     requires { ⌜ i < records.count (now file) ⌝ }
     ensures { λ r. ⌜ r ≡ faults.ascends (now (file .entry)) i ⌝ }
 {
@@ -183,53 +159,6 @@ fn ascends(file: &[u8], i: usize) -> bool
         return true;
     }
     action_at(file, i - 1) < action_at(file, i)
-}
-
-// How many records at the start of the file have strictly ascending actions: the length of the ascending prefix.
-fn ascending_prefix(file: &[u8]) -> usize
-    ensures { λ r. ⌜ r ≡ serving.ascendingPrefix (now (file .entry)) ⌝ }
-{
-    let n = file.len() / RECORD;
-    let mut i: usize = 0;
-    while i < n {
-        if !ascends(file, i) {
-            return i;
-        }
-        i += 1;
-    }
-    n
-}
-
-// Within the ascending prefix, the lowest record whose action is not below the given one.
-fn lower_bound(file: &[u8], action: u16, prefix: usize) -> usize
-    requires { ⌜ prefix ≡ serving.ascendingPrefix (now file) ⌝ }
-    ensures { λ r. ⌜ serving.LowerBound (now (file .entry)) action prefix r ⌝ }
-{
-    let mut low: usize = 0;
-    let mut high = prefix;
-    while low < high {
-        let middle = (low + high) / 2;
-        if action_at(file, middle) < action {
-            low = middle + 1;
-        } else {
-            high = middle;
-        }
-    }
-    low
-}
-
-// Whether some record lends the text of an action: a binary search in the ascending prefix, then a scan of the records after it.
-fn lends(file: &[u8], action: u16, prefix: usize) -> bool
-    requires { ⌜ prefix ≡ serving.ascendingPrefix (now file) ⌝ }
-    ensures { λ r. ⌜ r ≡ records.lends (now (file .entry)) action ⌝ }
-{
-    let at = lower_bound(file, action, prefix);
-    if at < prefix {
-        if lends_at(file, action, at) {
-            return true;
-        }
-    }
-    find_lender(file, action, prefix) < file.len() / RECORD
 }
 
 // ---- faults
@@ -273,70 +202,38 @@ fn text_good(file: &[u8], i: usize) -> bool
     good_byte(text_byte(file, i, 0)) & run_follows(file, i, 0) & run_follows(file, i, 7)
 }
 
-// Whether a record's text is all zero.
-fn text_zero(file: &[u8], i: usize) -> bool
-    requires { ⌜ i < records.count (now file) ⌝ }
-    ensures { λ r. ⌜ r ≡ faults.textIs (now (file .entry)) i 0 ⌝ }
-{
-    let at = i * RECORD + TEXT_START;
-    let low = tables::u64_at(file, at);
-    let middle = tables::u64_at(file, at + 8);
-    let high = tables::u64_at(file, at + 16);
-    (low == 0) & (middle == 0) & (high == 0)
-}
-
-// Whether a record is good as one with a text of its own.
-fn own_good(file: &[u8], i: usize) -> bool
+// Whether a record is good as one of kind 0, but for its kind byte: the lender is 0, and the text is good.
+pub fn own_good(file: &[u8], i: usize) -> bool
     requires { ⌜ i < records.count (now file) ⌝ }
     ensures { λ r. ⌜ r ≡ faults.ownGood (now (file .entry)) i ⌝ }
 {
     (lender_at(file, i) == 0) & text_good(file, i)
 }
 
-// Whether a record is good as one with a borrowed text.
-fn borrow_good(file: &[u8], i: usize, prefix: usize) -> bool
-    requires { ⌜ (i < records.count (now file)) × (prefix ≡ serving.ascendingPrefix (now file)) ⌝ }
-    ensures { λ r. ⌜ r ≡ faults.borrowGood (now (file .entry)) i ⌝ }
-{
-    text_zero(file, i) & lends(file, lender_at(file, i), prefix)
-}
-
-// Whether a record is good as its kind asks.
-fn kind_good(file: &[u8], i: usize, prefix: usize) -> bool
-    requires { ⌜ (i < records.count (now file)) × (prefix ≡ serving.ascendingPrefix (now file)) ⌝ }
-    ensures { λ r. ⌜ r ≡ faults.kindGood (now (file .entry)) i ⌝ }
-{
-    let kind = kind_at(file, i);
-    if kind == 0 {
-        return own_good(file, i);
-    }
-    if kind == 1 {
-        return borrow_good(file, i, prefix);
-    }
-    false
-}
-
-// Whether a record of the ascending prefix is faulty.
-fn record_bad(file: &[u8], i: usize, prefix: usize) -> bool
-    requires { ⌜ (i < prefix) × (prefix ≡ serving.ascendingPrefix (now file)) ⌝ }
+// Whether a record is faulty: a kind byte that is not 0 is a fault. The text is looked at last, since that costs most.
+fn record_bad(file: &[u8], i: usize) -> bool
+    requires { ⌜ i < records.count (now file) ⌝ }
     ensures { λ r. ⌜ r ≡ faults.recordBad (now (file .entry)) i ⌝ }
 {
-    !(spare_zero(file, i) & kind_good(file, i, prefix))
+    if ascends(file, i) & spare_zero(file, i) & (kind_at(file, i) == 0) {
+        return !own_good(file, i);
+    }
+    true
 }
 
-// The lowest faulty record, or the number of records. The record after the ascending prefix is faulty.
+// The lowest faulty record, or the number of records.
 fn first_bad(file: &[u8]) -> usize
     ensures { λ r. ⌜ r ≡ lists.first (faults.recordBad (now (file .entry))) (records.count (now (file .entry))) ⌝ }
 {
-    let prefix = ascending_prefix(file);
+    let n = file.len() / RECORD;
     let mut i: usize = 0;
-    while i < prefix {
-        if record_bad(file, i, prefix) {
+    while i < n {
+        if record_bad(file, i) {
             return i;
         }
         i += 1;
     }
-    i
+    n
 }
 
 // The check of one file.
@@ -387,40 +284,11 @@ pub fn check_numbers(answer: Checked) -> Numbers
 
 // ---- labels
 
-// The record that lends the text of an action: the one that the search finds, if its kind byte is 0; else the number of records.
-fn lender(file: &[u8], action: u16) -> usize
-    ensures { λ r. ⌜ r ≡ labels.lenderOf (now (file .entry)) action ⌝ }
-{
-    let n = file.len() / RECORD;
-    let i = find(file, action);
-    if i < n {
-        if kind_at(file, i) == 0 {
-            return i;
-        }
-    }
-    n
-}
-
-// The record that has the text of an action, or the number of records.
-fn source(file: &[u8], action: u16) -> usize
-    ensures { λ r. ⌜ r ≡ labels.sourceOf (now (file .entry)) action ⌝ }
-{
-    let n = file.len() / RECORD;
-    let i = find(file, action);
-    if n <= i {
-        return n;
-    }
-    if kind_at(file, i) == 1 {
-        return lender(file, lender_at(file, i));
-    }
-    i
-}
-
 // The part of a file that is the text of an action, or the empty part at the start.
 fn part(file: &[u8], action: u16) -> TextPart
     ensures { λ r. ⌜ (r .offset ≡ labels.textOffset (now (file .entry)) action) × (r .size ≡ labels.textSize (now (file .entry)) action) ⌝ }
 {
-    let i = source(file, action);
+    let i = find(file, action);
     if i < file.len() / RECORD {
         let size = text_length(file, i);
         return TextPart {

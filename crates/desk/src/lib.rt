@@ -1,11 +1,13 @@
-// The desk terminal's functions for C: the tree check, the single firing, the check of two category files, the place of a label, PNML texts
-// written and read, and trees written.
+// The desk terminal's functions for C: the tree check, the single firing, the check of two category files, the place of a label, the converter of
+// category files with borrowed texts, PNML texts written and read, and trees written.
 // Each out-parameter is written at every call.
 ghost use mathlib.Core.Path.{_≡_};
 ghost use lib.ListN.{take, drop};
 ghost use Rattle.net.specs.Answer as firings;
 ghost use Rattle.category.specs.Faults as categories;
 ghost use Rattle.category.specs.Labels as labels;
+ghost use Rattle.category_borrowed.specs.Answer as converting;
+ghost use Rattle.category_borrowed.specs.Theorem as conversions;
 ghost use Rattle.checker.specs.Outcomes as outcomes;
 ghost use Rattle.checker.specs.Demand as demand;
 ghost use Rattle.pnml_shape.specs.Theorem as theorem;
@@ -103,6 +105,25 @@ pub extern "C" fn desk_label(
     *file = place.file;
     *offset = place.offset;
     *length = place.length;
+}
+
+// Converts a category file with borrowed texts, valid under document 01: the converted file stands at the start of the room, whose other bytes
+// stay. 0 with the number of records rewritten, or 9, 10 with the record, or 12; a refused call writes nothing. At 0 the converted file is
+// faultless, and each action has in it the text that it had before.
+#[no_mangle]
+pub extern "C" fn desk_convert_categories(
+    file: &[u8],
+    room: &mut [u8],
+    record: &mut u64,
+    rewritten: &mut u64,
+) -> u32
+    ensures answer { λ r. let a = converting.convertAnswer (now (file .entry)) (now (room .entry)) in ⌜ (r ≡ a .found .number) × (now («record» .exit) ≡ a .found .place) × (now (rewritten .exit) ≡ a .rewritten) × (now (room .exit) ≡ a .room) ⌝ }
+    ensures worth { λ r. ⌜ (r ≡ 0 → conversions.Converts (now (file .entry))) ⌝ }
+{
+    let said = category_convert::convert_numbers(category_convert::convert(file, room));
+    *record = said.place;
+    *rewritten = said.rewritten;
+    said.number
 }
 
 // Writes the PNML text of a net with a marking at the start of the room, whose other bytes stay: 0 with the text's length, or the refusal

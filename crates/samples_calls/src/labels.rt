@@ -108,7 +108,7 @@ fn sample(names: &[u8], i: u32, translation: Contents, house: Contents, action: 
 
 // ---- labels
 
-// A label of one file or of both; files of no records; borrowed labels, whose lender stands before or after, in the same file.
+// A label of one file or of both; files of no records.
 fn own() {
     let names: &[u8] = b"in both:\n\
         missing in the translation:\n\
@@ -116,10 +116,7 @@ fn own() {
         missing in both:\n\
         no translation:\n\
         no house file:\n\
-        no records:\n\
-        borrowed:\n\
-        borrowed from after:\n\
-        borrowed in the house file:\n";
+        no records:\n";
     let zeros = record(0, 0, 0, 0, 0);
     let go = record(5, 0, 0, b'G', b'o');
     let none = file(0, zeros, zeros);
@@ -129,8 +126,6 @@ fn own() {
         record(5, 0, 0, b'N', b'o'),
         record(600, 0, 0, b'U', b'p'),
     );
-    let back = file(64, go, record(7, 1, 5, 0, 0));
-    let ahead = file(64, record(5, 1, 7, 0, 0), record(7, 0, 0, b'N', b'o'));
     sample(names, 0, one, two, 5);
     sample(names, 1, one, two, 600);
     sample(names, 2, two, one, 600);
@@ -138,9 +133,6 @@ fn own() {
     sample(names, 4, none, one, 5);
     sample(names, 5, one, none, 5);
     sample(names, 6, none, none, 5);
-    sample(names, 7, back, ahead, 7);
-    sample(names, 8, ahead, back, 5);
-    sample(names, 9, none, back, 7);
 }
 
 // The label of an action that the house file alone has, beside a translation of the actions 5 and 600.
@@ -169,7 +161,7 @@ fn single(names: &[u8], i: u32, kind: u8, lender: u16, text: &[u8]) {
     lookup(names, i, &file, b"", 5);
 }
 
-// Texts, good and faulty; kinds and lenders.
+// Texts, good and faulty; kinds above 0 and lenders.
 fn texts() {
     let names: &[u8] = b"text of 24 bytes:\n\
         byte 0x1F:\n\
@@ -181,9 +173,10 @@ fn texts() {
         no text:\n\
         a byte after a zero byte:\n\
         own text and a lender:\n\
-        kind 2:\n\
-        lender is the record itself:\n\
-        lender missing:\n";
+        kind 1:\n\
+        kind 1 and a lender:\n\
+        kind 1 without a text:\n\
+        kind 2:\n";
     single(names, 0, 0, 0, b"ABCDEFGHIJKLMNOPQRSTUVWX");
     single(names, 1, 0, 0, b"\x1F");
     single(names, 2, 0, 0, b"\x20\x7E");
@@ -194,42 +187,55 @@ fn texts() {
     single(names, 7, 0, 0, b"");
     single(names, 8, 0, 0, b"A\0B");
     single(names, 9, 0, 5, b"Go");
-    single(names, 10, 2, 0, b"Go");
-    single(names, 11, 1, 5, b"");
-    single(names, 12, 1, 9, b"");
+    single(names, 10, 1, 0, b"Go");
+    single(names, 11, 1, 5, b"Go");
+    single(names, 12, 1, 5, b"");
+    single(names, 13, 2, 0, b"Go");
 }
 
 // ---- faulty records
 
-// A lender of kind 1, in a file of three records.
-fn chain() {
-    let mut chain = [0u8; 96];
-    put(&mut chain, 0, record(5, 0, 0, b'G', b'o'));
-    put(&mut chain, 1, record(6, 1, 5, 0, 0));
-    put(&mut chain, 2, record(7, 1, 6, 0, 0));
-    lookup(b"lender of kind 1:", 0, &chain, b"", 7);
+// Records of kind 1, which borrowed a text once, whose lender stands before or after; the lowest of two faults; such a house file.
+fn retired() {
+    let names: &[u8] = b"kind 1, lender before:\n\
+        kind 1, lender before, the lender's label:\n\
+        kind 1, lender after:\n\
+        no text, then kind 1:\n\
+        kind 1, then no text:\n\
+        kind 1 in the house file:\n\
+        kind 1 in the house file, in the translation:\n";
+    let zeros = record(0, 0, 0, 0, 0);
+    let none = file(0, zeros, zeros);
+    let go = record(5, 0, 0, b'G', b'o');
+    let back = file(64, go, record(7, 1, 5, 0, 0));
+    let ahead = file(64, record(5, 1, 7, 0, 0), record(7, 0, 0, b'N', b'o'));
+    let empty = record(5, 0, 0, 0, 0);
+    sample(names, 0, back, none, 7);
+    sample(names, 1, back, none, 5);
+    sample(names, 2, ahead, none, 5);
+    sample(names, 3, file(64, empty, record(7, 1, 5, 0, 0)), none, 7);
+    sample(
+        names,
+        4,
+        file(64, record(5, 1, 7, 0, 0), record(7, 0, 0, 0, 0)),
+        none,
+        5,
+    );
+    sample(names, 5, none, back, 7);
+    sample(names, 6, file(32, go, zeros), back, 5);
 }
 
-// A faulty lender, which is then the only faulty record; a lender of the other file; a borrower with a text; actions that do not ascend.
+// Actions that do not ascend.
 fn faulty() {
-    let names: &[u8] = b"faulty lender:\n\
-        lender in the other file:\n\
-        borrowed and a text:\n\
-        equal actions:\n\
+    let names: &[u8] = b"equal actions:\n\
         falling actions:\n";
     let zeros = record(0, 0, 0, 0, 0);
     let none = file(0, zeros, zeros);
     let go = record(5, 0, 0, b'G', b'o');
     let no = record(5, 0, 0, b'N', b'o');
     let high = record(600, 0, 0, b'G', b'o');
-    let control = file(64, record(5, 1, 7, 0, 0), record(7, 0, 0, 0x7F, 0));
-    let borrower = file(32, record(5, 1, 9, 0, 0), zeros);
-    let lender = file(32, record(9, 0, 0, b'N', b'o'), zeros);
-    sample(names, 0, control, none, 5);
-    sample(names, 1, borrower, lender, 5);
-    sample(names, 2, file(64, go, record(7, 1, 5, b'N', b'o')), none, 7);
-    sample(names, 3, file(64, go, no), none, 5);
-    sample(names, 4, file(64, high, no), none, 600);
+    sample(names, 0, file(64, go, no), none, 5);
+    sample(names, 1, file(64, high, no), none, 600);
 }
 
 // A record with these spare bytes, after a good record.
@@ -341,7 +347,7 @@ fn three(names: &[u8], i: u32, first: Fields, second: Fields, third: Fields, act
     text(names, i, &t, action);
 }
 
-// Actions that the file has and lacks; records out of order; a record that is not whole; a kind that is none.
+// Actions that the file has and lacks; records out of order; a record that is not whole; kinds and a lender, which are not looked at.
 fn order() {
     let names: &[u8] = b"below the first:\n\
         the first:\n\
@@ -353,7 +359,9 @@ fn order() {
         behind a lower and a greater action:\n\
         equal actions:\n\
         63 bytes:\n\
-        kind 2:\n";
+        kind 2:\n\
+        kind 1 and a lender:\n\
+        kind 1 without a text:\n";
     let no = record(5, 0, 0, b'N', b'o');
     let go = record(7, 0, 0, b'G', b'o');
     let up = record(600, 0, 0, b'U', b'p');
@@ -369,35 +377,8 @@ fn order() {
     alone(names, 8, file(64, no, record(5, 0, 0, b'G', b'o')), 5);
     alone(names, 9, file(63, no, up), 600);
     alone(names, 10, file(32, record(5, 2, 0, b'N', b'o'), up), 5);
-}
-
-// Lenders before and after, behind a greater action, and of another kind than 0.
-fn lenders() {
-    let names: &[u8] = b"borrowed:\n\
-        borrowed from after:\n\
-        lender behind a greater action:\n\
-        lender before a greater action:\n\
-        lender of kind 1, then one of kind 0:\n\
-        lender of kind 2:\n";
-    let go = record(5, 0, 0, b'G', b'o');
-    let borrower = record(7, 1, 5, 0, 0);
-    let up = record(600, 0, 0, b'U', b'p');
-    alone(names, 0, file(64, go, borrower), 7);
-    alone(
-        names,
-        1,
-        file(64, record(5, 1, 7, 0, 0), record(7, 0, 0, b'N', b'o')),
-        5,
-    );
-    three(names, 2, borrower, up, go, 7);
-    three(names, 3, go, borrower, record(6, 0, 0, b'N', b'o'), 7);
-    alone(names, 4, file(64, record(5, 1, 5, 0, 0), go), 5);
-    alone(
-        names,
-        5,
-        file(64, record(5, 1, 7, 0, 0), record(7, 2, 0, b'N', b'o')),
-        5,
-    );
+    alone(names, 11, file(64, record(5, 1, 600, b'N', b'o'), up), 5);
+    alone(names, 12, file(64, record(5, 1, 600, 0, 0), up), 5);
 }
 
 // All samples of labels and of category files.
@@ -405,11 +386,10 @@ pub(crate) fn print_all() {
     own();
     gaps();
     texts();
-    chain();
+    retired();
     faulty();
     spares();
     hidden();
     most();
     order();
-    lenders();
 }

@@ -73,6 +73,14 @@ mod c {
             side: *mut u32,
             nodes: *mut u64,
         ) -> u32;
+        pub fn desk_convert_categories(
+            file: *const u8,
+            file_len: usize,
+            room: *mut u8,
+            room_len: usize,
+            record: *mut u64,
+            rewritten: *mut u64,
+        ) -> u32;
     }
 }
 
@@ -224,4 +232,22 @@ pub fn write_tree(
         )
     };
     (number, record, side, nodes)
+}
+
+/// The number, the record and the records rewritten.
+pub fn convert_categories(file: &[u8], room: &mut [u8]) -> (u32, u64, u64) {
+    let mut record = UNWRITTEN;
+    let mut rewritten = UNWRITTEN;
+    // SAFETY: as in `check`.
+    let number = unsafe {
+        c::desk_convert_categories(
+            file.as_ptr(),
+            file.len(),
+            room.as_mut_ptr(),
+            room.len(),
+            &mut record,
+            &mut rewritten,
+        )
+    };
+    (number, record, rewritten)
 }

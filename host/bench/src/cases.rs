@@ -10,7 +10,7 @@ use generate::encode::{self, Transition};
 use generate::families::{self, NET_R};
 use generate::written::{self as claims, WrittenCase};
 use reference::category::CATEGORIES;
-use reference::{Refusal, category, check, net, pnml, written};
+use reference::{Refusal, category, check, converted, net, pnml, written};
 
 type Call = Box<dyn Fn() -> u64>;
 
@@ -48,23 +48,14 @@ pub const CASES: [Named; 36] = [
         fire_bench(large_net(), 64, u64::MAX, 63)
     }),
     ("categories: full files", categories_bench),
-    ("categories: full, search", search_bench),
     ("label: small files", || {
         label_bench(small_file(1), small_file(2), 5)
     }),
-    ("label: full, first", || {
-        label_bench(full_file(), full_file(), 0)
-    }),
-    ("label: full, last", || {
-        label_bench(full_file(), full_file(), 1999)
-    }),
-    ("label: full, none", || {
-        label_bench(full_file(), full_file(), 5000)
-    }),
-    ("label: own texts, first", || own_bench(10)),
-    ("label: own texts, middle", || own_bench(10_000)),
-    ("label: own texts, last", || own_bench(20_000)),
-    ("label: own texts, low", || own_bench(5)),
+    ("label: full, first", || full_bench(10)),
+    ("label: full, middle", || full_bench(10_000)),
+    ("label: full, last", || full_bench(20_000)),
+    ("label: full, none, low", || full_bench(5)),
+    ("label: full, none, high", || full_bench(30_000)),
     ("pnml: write R", || write_bench(3, 3, encode::net(&NET_R))),
     ("pnml: write 8192 arcs", || write_bench(64, 5, net_of(64))),
     ("pnml: read R", || {
@@ -110,6 +101,13 @@ pub const CASES: [Named; 36] = [
     ("written: 254 steps", || written_bench(claims::ring(false))),
     ("written: 254 steps, 12", || {
         written_bench(claims::ring(true))
+    }),
+    ("converted: no borrower", || convert_bench(full_file())),
+    ("converted: every second", || {
+        convert_bench(file_of(CATEGORIES, |i| (i % 2 == 0).then(|| i - 1)))
+    }),
+    ("converted: all from last", || {
+        convert_bench(lent_file(CATEGORIES))
     }),
 ];
 
@@ -161,24 +159,28 @@ fn fire_bench(net: Vec<u8>, places: u32, marking: u64, t: u32) -> Bench {
     }
 }
 
-/// 2,000 records, the first half borrowing from the last record.
-fn full_file() -> Vec<u8> {
-    let last = CATEGORIES as u16 - 1;
-    let record = |action: u16| match action < CATEGORIES as u16 / 2 {
-        true => borrower(action, last),
-        false => named(action, b"a text of 24 bytes, full"),
+/// So many records with actions in tens. Those with a lender borrow their text.
+fn file_of(records: usize, lender: impl Fn(u16) -> Option<u16>) -> Vec<u8> {
+    let record = |i: u16| match lender(i) {
+        Some(lender) => borrower(10 * i, 10 * lender),
+        None => named(10 * i, b"a text of 24 bytes, full"),
     };
-    (0..CATEGORIES as u16).flat_map(record).collect()
+    (1..=records as u16).flat_map(record).collect()
 }
 
-/// 2,000 records with a text of their own, actions 10 to 20,000 in tens.
-fn own_file() -> Vec<u8> {
-    let record = |i: u16| named(10 * i, b"a text of 24 bytes, full");
-    (1..=CATEGORIES as u16).flat_map(record).collect()
+/// 2,000 records, actions 10 to 20,000.
+fn full_file() -> Vec<u8> {
+    file_of(CATEGORIES, |_| None)
 }
 
-fn own_bench(action: u16) -> Bench {
-    label_bench(own_file(), own_file(), action)
+/// So many records, all but the last borrowing from it.
+pub fn lent_file(records: usize) -> Vec<u8> {
+    let last = records as u16;
+    file_of(records, |i| (i < last).then_some(last))
+}
+
+fn full_bench(action: u16) -> Bench {
+    label_bench(full_file(), full_file(), action)
 }
 
 fn small_file(first: u16) -> Vec<u8> {
@@ -194,16 +196,6 @@ fn categories_bench() -> Bench {
             two(number, record)
         }),
         reference: Box::new(move || refused(category::check(black_box(&copy), black_box(&copy)))),
-    }
-}
-
-/// The same against a reference that looks through the file for each lender.
-fn search_bench() -> Bench {
-    let copy = full_file();
-    let by_search = move || category::check_by_search(black_box(&copy), black_box(&copy));
-    Bench {
-        reference: Box::new(move || refused(by_search())),
-        ..categories_bench()
     }
 }
 
@@ -325,6 +317,24 @@ pub fn written_bench(case: WrittenCase) -> Bench {
     }
 }
 
+pub fn convert_bench(file: Vec<u8>) -> Bench {
+    let copy = file.clone();
+    let room = RefCell::new(vec![0; file.len()]);
+    let room_copy = room.clone();
+    Bench {
+        archive: Box::new(move || {
+            let room = &mut room.borrow_mut()[..];
+            let answer = archive::convert_categories(black_box(&file), black_box(room));
+            two(answer.0, answer.1 ^ answer.2)
+        }),
+        reference: Box::new(move || {
+            let room = &mut room_copy.borrow_mut()[..];
+            let answer = converted::convert(black_box(&copy), black_box(room));
+            answer.unwrap_or_else(|refusal| two(refusal.number, refusal.record))
+        }),
+    }
+}
+
 /// The tables of the cases as files of a folder. The trail is a short one, since
 /// its cost is the square of its length.
 pub fn write(folder: &Path) -> std::io::Result<()> {
@@ -345,7 +355,6 @@ pub fn write(folder: &Path) -> std::io::Result<()> {
     }
     std::fs::write(folder.join("large.net"), large_net())?;
     std::fs::write(folder.join("full"), full_file())?;
-    std::fs::write(folder.join("own"), own_file())?;
     std::fs::write(folder.join("small.1"), small_file(1))?;
     std::fs::write(folder.join("small.2"), small_file(2))
 }

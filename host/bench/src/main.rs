@@ -4,7 +4,8 @@
 //! bench list                       the names of the cases
 //! bench one CASE SIDE TIMES        one case on one side (archive, reference)
 //! bench growth                     cost by nodes, depth and transitions, by length
-//!                                  of text, and of written trees by nodes and steps
+//!                                  of text, of written trees by nodes and steps, and
+//!                                  of converted files by records
 //! bench tables FOLDER              the tables of the cases as files, for pair/
 
 mod cases;
@@ -12,7 +13,10 @@ mod measure;
 
 use std::path::Path;
 
-use cases::{Bench, CASES, net_of, read_bench, text, tree_bench, write_bench, written_bench};
+use cases::{
+    Bench, CASES, convert_bench, lent_file, net_of, read_bench, text, tree_bench, write_bench,
+    written_bench,
+};
 use generate::cases::TreeCase;
 use generate::families;
 use generate::written::{ands, switches};
@@ -93,6 +97,9 @@ fn growth() {
     println!("by steps (operator 3 over 256 markings, 8 enabled at each)");
     let steps = [2, 3, 4, 5, 6, 7].map(|levels| (levels, written_bench(switches(levels))));
     grow_parts("step", steps);
+    println!("by records converted (all but the last borrow from it)");
+    let files = [125, 250, 500, 1000, 2000].map(|n| (n, convert_bench(lent_file(n))));
+    grow_parts("record", files);
 }
 
 /// The text of a net with all arcs of the first transitions.

@@ -3,13 +3,14 @@
 use std::process::ExitCode;
 
 use generate::cases::TreeCase;
-use generate::categories::LabelCase;
+use generate::categories::{ConvertCase, LabelCase};
 use generate::firings::FiringCase;
 use generate::pnml::{ReadCase, WriteCase};
 use generate::written::WrittenCase;
 use reference::check::Verdict;
 use reference::{category, check, net};
 
+use crate::converted;
 use crate::drawings;
 use crate::rooms::Answer;
 use crate::written;
@@ -76,6 +77,11 @@ pub fn written(case: &WrittenCase, expected: &Answer, found: &Answer) -> String 
     let tables = [&case.ask, &case.net, &case.formulas].map(|t| hex(t));
     let (tables, room) = (tables.join(" "), case.room);
     format!("written {tables} {room} = {expected} but {found}")
+}
+
+pub fn converted(case: &ConvertCase, expected: &Answer, found: &Answer) -> String {
+    let (file, room) = (hex(&case.file), case.room);
+    format!("converted {file} {room} = {expected} but {found}")
 }
 
 fn three((a, b, c): (u32, u64, u64)) -> String {
@@ -163,6 +169,16 @@ fn answers(kind: &str, input: &str) -> (String, String) {
             let expected = written::reference_tree(&case);
             (found.to_string(), expected.to_string())
         }
+        "converted" => {
+            let case = ConvertCase {
+                file: bytes(fields[0]),
+                room: fields[1].parse().expect("a room"),
+                actions: Vec::new(),
+            };
+            let found = converted::archive_file(&case);
+            let expected = converted::reference_file(&case);
+            (found.to_string(), expected.to_string())
+        }
         _ => {
             let places = fields[0].parse().expect("places");
             let marking = fields[1].parse().expect("a marking");
@@ -179,13 +195,14 @@ fn answers(kind: &str, input: &str) -> (String, String) {
 }
 
 /// What the lines begin with.
-const KINDS: [&str; 6] = [
+const KINDS: [&str; 7] = [
     "tree ",
     "label ",
     "firing ",
     "pnml_write ",
     "pnml_read ",
     "written ",
+    "converted ",
 ];
 
 /// Compares the archive with every line of the vectors.
@@ -201,6 +218,8 @@ pub fn vectors(folder: &str) -> ExitCode {
         ("pnml_write", "pnml_write"),
         ("pnml_read", "pnml_read"),
         ("written", "written"),
+        ("converted", "converted"),
+        ("label", "labels_6"),
     ] {
         let path = format!("{folder}/{name}.txt");
         let text = std::fs::read_to_string(&path).expect("the vectors are readable");

@@ -5,6 +5,7 @@
 //! compare programs FOLDER BIN   the programs in BIN against the vectors
 //! compare replay FILE      lines as this program prints them for a difference
 
+mod converted;
 mod drawings;
 mod lines;
 mod programs;
@@ -16,7 +17,7 @@ use std::process::ExitCode;
 use std::time::Instant;
 
 use generate::cases::{Case, Generator, Kind, TreeCase};
-use generate::categories::LabelCase;
+use generate::categories::{ConvertCase, LabelCase, convert_case, has_borrower};
 use generate::encode::{has_optional, has_until};
 use generate::firings::FiringCase;
 use generate::pnml::{ReadCase, WriteCase, read_case, write_case};
@@ -33,8 +34,10 @@ use tally::Tally;
 const MARKINGS: usize = 3000;
 /// Of so many cases, one more is a net to write and one a text to read.
 const DRAWINGS: u64 = 8;
-/// Of so many cases, one more is a claim whose tree is written.
+/// Of so many cases, one more is a claim whose tree is written, and one a category file
+/// to convert.
 const CLAIMS: u64 = 5;
+const CONVERSIONS: u64 = 5;
 
 fn main() -> ExitCode {
     let arguments: Vec<String> = std::env::args().skip(1).collect();
@@ -64,6 +67,7 @@ fn generated(cases: u64, seed: u64) -> ExitCode {
     let mut generator = Generator::new(seed);
     let mut drawings = Prng::new(seed);
     let mut claims = Prng::new(seed);
+    let mut conversions = Prng::new(seed);
     let mut tally = Tally::default();
     for case in 0..cases {
         if case % DRAWINGS == 0 {
@@ -72,6 +76,9 @@ fn generated(cases: u64, seed: u64) -> ExitCode {
         }
         if case % CLAIMS == 0 {
             compare_written(&mut tally, &written_case(&mut claims));
+        }
+        if case % CONVERSIONS == 0 {
+            compare_converted(&mut tally, &convert_case(&mut conversions));
         }
         match generator.case() {
             Case::Tree(kind, case) => compare_tree(&mut tally, kind, &case),
@@ -151,6 +158,7 @@ fn compare_labels(tally: &mut Tally, case: &LabelCase) {
     let found = archive::categories(&case.translation, &case.house);
     tally.label_pairs += 1;
     tally.answer(expected.0);
+    tally.retired += u64::from(converted::retired(&case.translation, &case.house));
     let mut labels_differ = false;
     for &action in &case.actions {
         let label = category::label(&case.translation, &case.house, action);
@@ -217,5 +225,18 @@ fn compare_other(tally: &mut Tally, case: &TreeCase) {
     let found = archive::check(&case.ask, &case.net, &case.formulas, &case.tree);
     if found.0 == 0 {
         tally.contradiction(size(case), || lines::tree(case, (22, 0), found));
+    }
+}
+
+fn compare_converted(tally: &mut Tally, case: &ConvertCase) {
+    let expected = converted::reference_file(case);
+    let found = converted::archive_file(case);
+    tally.converted(expected.number(), has_borrower(&case.file));
+    let line = || lines::converted(case, &expected, &found);
+    if found != expected {
+        tally.difference(case.file.len(), line);
+    }
+    if found.number() == 0 && !converted::serves(case, found.written()) {
+        tally.unserved(case.file.len(), line);
     }
 }

@@ -15,6 +15,11 @@ const READS: [u32; 5] = [0, 1, 2, 12, 13];
 /// The answers of the writer of trees that must occur.
 const WRITTEN: [u32; 9] = [0, 1, 2, 3, 4, 5, 7, 12, 14];
 
+/// The answers of the converter of category files that must occur, and those that must
+/// for files with a record of kind 1.
+const CONVERTED: [u32; 4] = [0, 9, 10, 12];
+const BORROWED: [u32; 3] = [0, 10, 12];
+
 /// The rules that depend on what is pressed, all of which must occur in accepted
 /// trees at markings where an optional transition is enabled.
 const PRESSED: [u32; 6] = [6, 7, 9, 12, 29, 31];
@@ -117,6 +122,8 @@ pub struct Tally {
     kinds: [Marked; KINDS.len()],
     pub label_pairs: u64,
     pub labels: u64,
+    /// Pairs that are refused for a record of kind 1 alone.
+    pub retired: u64,
     firings: Marked,
     rules: Counts,
     /// The rules where an optional transition is enabled.
@@ -130,6 +137,9 @@ pub struct Tally {
     optional_written: Counts,
     /// The answers where the formula table has an "until".
     until_written: Counts,
+    converted: Counts,
+    /// The answers where the file has a record of kind 1.
+    borrowed_converted: Counts,
     pub evaluated: u64,
     pub unevaluated: u64,
     pub refused_valid: u64,
@@ -138,6 +148,7 @@ pub struct Tally {
     pub too_many_markings: u64,
     differences: Findings,
     contradictions: Findings,
+    unserved: Findings,
 }
 
 impl Tally {
@@ -178,6 +189,13 @@ impl Tally {
         }
     }
 
+    pub fn converted(&mut self, number: u32, borrowed: bool) {
+        self.converted.add(number);
+        if borrowed {
+            self.borrowed_converted.add(number);
+        }
+    }
+
     /// A rule of an accepted tree, at a marking where an optional transition is
     /// enabled or not.
     pub fn rule(&mut self, number: u8, optional: bool) {
@@ -195,14 +213,19 @@ impl Tally {
         self.contradictions.add(size, line);
     }
 
+    /// A converted file that does not serve as the one before did.
+    pub fn unserved(&mut self, size: usize, line: impl Fn() -> String) {
+        self.unserved.add(size, line);
+    }
+
     pub fn print(&self) {
         println!("cases by kind:");
         for (place, (_, name)) in KINDS.iter().enumerate() {
             self.kinds[place].print(name, "accepted");
         }
         println!(
-            "  category pairs: {}, labels found {}",
-            self.label_pairs, self.labels
+            "  category pairs: {}, labels found {}, refused for kind 1 alone {}",
+            self.label_pairs, self.labels, self.retired
         );
         self.firings.print("single firings", "fired");
         println!("rules in accepted trees:");
@@ -226,6 +249,11 @@ impl Tally {
             self.optional_written.text(&[0]),
             self.until_written.text(&[0, 14])
         );
+        println!("  files converted: {}", self.converted.text(&CONVERTED));
+        println!(
+            "  with a record of kind 1: {}",
+            self.borrowed_converted.text(&BORROWED)
+        );
         println!(
             "accepted trees with the meaning evaluated: {}, graph too large: {}",
             self.evaluated, self.unevaluated
@@ -243,11 +271,13 @@ impl Tally {
             println!("never occurred: {missing}");
         }
         self.contradictions.print("accepted against the meaning");
+        self.unserved.print("against the file before");
         self.differences.print("difference");
         println!(
             "accepted against the meaning: {}",
             self.contradictions.count
         );
+        println!("against the file before: {}", self.unserved.count);
         println!("differences: {}", self.differences.count);
     }
 
@@ -263,6 +293,11 @@ impl Tally {
                 &[0],
             ),
             ("until: written tree's answer", &self.until_written, &[0]),
+            (
+                "kind 1: converter's answer",
+                &self.borrowed_converted,
+                &BORROWED,
+            ),
         ];
         for (name, counts, numbers) in marked {
             missing.extend(counts.missing(name, numbers));
@@ -271,12 +306,17 @@ impl Tally {
         missing.extend(self.writes.missing("writer's answer", &WRITES));
         missing.extend(self.reads.missing("reader's answer", &READS));
         missing.extend(self.written.missing("written tree's answer", &WRITTEN));
+        missing.extend(self.converted.missing("converter's answer", &CONVERTED));
+        if self.retired == 0 {
+            missing.push("answer 10 for kind 1 alone".to_owned());
+        }
         missing
     }
 
     pub fn passed(&self) -> bool {
         self.differences.count == 0
             && self.contradictions.count == 0
+            && self.unserved.count == 0
             && self.stuck == 0
             && self.refused_valid == 0
             && self.missing().is_empty()

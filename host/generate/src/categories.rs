@@ -1,8 +1,9 @@
-//! Pairs of category files with actions to look up.
+//! Pairs of category files with actions to look up, and files to convert.
 
 use reference::category::{CATEGORIES, CATEGORY};
 
 use crate::prng::Prng;
+use crate::rooms::room;
 
 pub struct LabelCase {
     pub translation: Vec<u8>,
@@ -10,25 +11,43 @@ pub struct LabelCase {
     pub actions: Vec<u16>,
 }
 
+/// A file, the length of the room, and actions to look up before and after.
+#[derive(Clone, Debug, PartialEq, Eq)]
+pub struct ConvertCase {
+    pub file: Vec<u8>,
+    pub room: usize,
+    pub actions: Vec<u16>,
+}
+
 const EDGE_BYTES: [u8; 12] = [
     0x00, 0x01, 0x1F, 0x20, 0x21, 0x7E, 0x7F, 0x80, 0x9F, 0xA0, 0xA1, 0xFF,
 ];
 
+/// Files with borrowed labels are refused, so most have none.
 pub fn label_case(rng: &mut Prng) -> LabelCase {
-    let mut translation = file(rng);
-    let mut house = file(rng);
-    if rng.percent(30) {
-        damage(rng, &mut translation);
-    }
-    if rng.percent(30) {
-        damage(rng, &mut house);
-    }
-    let actions = (0..4).map(|_| action(rng, &translation, &house)).collect();
+    let borrowed = rng.pick(&[0, 0, 0, 0, 0, 0, 0, 10, 30, 60]);
+    let translation = file(rng, borrowed);
+    let house = file(rng, borrowed);
+    let actions = actions(rng, &translation, &house);
     LabelCase {
         translation,
         house,
         actions,
     }
+}
+
+pub fn convert_case(rng: &mut Prng) -> ConvertCase {
+    let borrowed = rng.pick(&[0, 30, 30, 60, 95]);
+    let file = file(rng, borrowed);
+    ConvertCase {
+        room: room(rng, file.len(), CATEGORY),
+        actions: actions(rng, &file, &file),
+        file,
+    }
+}
+
+fn actions(rng: &mut Prng, translation: &[u8], house: &[u8]) -> Vec<u16> {
+    (0..4).map(|_| action(rng, translation, house)).collect()
 }
 
 /// An action of one of the files, a neighbour of one, or any.
@@ -47,7 +66,8 @@ fn action(rng: &mut Prng, translation: &[u8], house: &[u8]) -> u16 {
     }
 }
 
-fn file(rng: &mut Prng) -> Vec<u8> {
+/// A file, damaged in about 30 of 100 calls.
+fn file(rng: &mut Prng, borrowed: usize) -> Vec<u8> {
     let count = match rng.below(200) {
         0 => CATEGORIES,
         1 => CATEGORIES + 1,
@@ -55,13 +75,20 @@ fn file(rng: &mut Prng) -> Vec<u8> {
         3..=30 => 0,
         _ => rng.between(1, 8),
     };
-    good_file(rng, count, 30)
+    let mut file = good_file(rng, count, borrowed);
+    if rng.percent(30) {
+        damage(rng, &mut file);
+    }
+    file
 }
 
-/// A file in good order, with about `borrowed` of 100 records of kind 1.
-pub fn good_file(rng: &mut Prng, count: usize, borrowed: usize) -> Vec<u8> {
+/// A file in good order, with about `borrowed` of 100 records of kind 1, but not all.
+fn good_file(rng: &mut Prng, count: usize, borrowed: usize) -> Vec<u8> {
     let mut actions = Vec::with_capacity(count);
     let mut action = rng.below(3);
+    if count <= 20 && rng.percent(10) {
+        action += rng.pick(&[250, 65_500]);
+    }
     for _ in 0..count {
         actions.push(action as u16);
         action += if count > 20 {
@@ -73,16 +100,19 @@ pub fn good_file(rng: &mut Prng, count: usize, borrowed: usize) -> Vec<u8> {
     if count > 0 && rng.percent(3) {
         actions[count - 1] = u16::MAX;
     }
-    let kinds: Vec<bool> = (0..count).map(|_| rng.percent(borrowed)).collect();
+    let own = rng.below(count.max(1));
+    let lends: Vec<bool> = (0..count)
+        .map(|i| i == own || !rng.percent(borrowed))
+        .collect();
     let lenders: Vec<u16> = (0..count)
-        .filter(|&i| !kinds[i])
+        .filter(|&i| lends[i])
         .map(|i| actions[i])
         .collect();
     let mut file = Vec::with_capacity(count * CATEGORY);
     for i in 0..count {
-        let record = match kinds[i] && !lenders.is_empty() {
-            true => borrower(actions[i], rng.pick(&lenders)),
-            false => named(actions[i], &text(rng)),
+        let record = match lends[i] {
+            true => named(actions[i], &text(rng)),
+            false => borrower(actions[i], rng.pick(&lenders)),
         };
         file.extend(record);
     }
@@ -120,10 +150,27 @@ fn text(rng: &mut Prng) -> Vec<u8> {
     (0..length).map(|_| byte(rng)).collect()
 }
 
+/// Whether a file has a record of kind 1.
+pub fn has_borrower(file: &[u8]) -> bool {
+    file.chunks_exact(CATEGORY).any(|record| record[2] == 1)
+}
+
 /// One to three changes, near the front for large files as often as not.
 fn damage(rng: &mut Prng, file: &mut Vec<u8>) {
     for _ in 0..rng.pick(&[1, 1, 2, 3]) {
         damage_once(rng, file);
+    }
+}
+
+/// A record to damage, one of kind 1 as often as not.
+fn damaged(rng: &mut Prng, file: &[u8]) -> usize {
+    let records = file.len() / CATEGORY;
+    let borrowers: Vec<usize> = (0..records)
+        .filter(|i| file[i * CATEGORY + 2] == 1)
+        .collect();
+    match borrowers.is_empty() || rng.percent(50) {
+        true => rng.below(records),
+        false => rng.pick(&borrowers),
     }
 }
 
@@ -139,7 +186,7 @@ fn damage_once(rng: &mut Prng, file: &mut Vec<u8>) {
         file.resize(length, 0);
         return;
     }
-    let (a, b) = (rng.below(records), rng.below(records));
+    let (a, b) = (damaged(rng, file), rng.below(records));
     let (at, other) = (a * CATEGORY, b * CATEGORY);
     match rng.below(11) {
         0 => file[at + rng.below(CATEGORY)] = rng.number() as u8,

@@ -1,5 +1,5 @@
 //! A seeded generator of cases: trees, category files, single firings, nets as
-//! PNML text, and claims whose tree is to be written.
+//! PNML text, claims whose tree is to be written, and category files to convert.
 
 pub mod cases;
 pub mod categories;

@@ -1,4 +1,5 @@
-//! Category files: the check of two files and the label of an action.
+//! Category files: the check of two files and the label of an action. Kind 1 is retired
+//! (F-6): each record has its own text.
 
 use crate::bytes::{records, u16_at};
 use crate::{Refusal, refused, refused_at};
@@ -8,26 +9,17 @@ pub const CATEGORY: usize = 32;
 /// The most records of a file.
 pub const CATEGORIES: usize = 2_000;
 
-const TEXT: usize = 8;
+/// Where a record's text stands.
+pub(crate) const TEXT: usize = 8;
 
-type Record = [u8; CATEGORY];
+pub(crate) type Record = [u8; CATEGORY];
 
-/// The actions of the records whose kind byte is 0.
-struct Lenders([u64; 1024]);
+pub(crate) fn action(record: &Record) -> u16 {
+    u16_at(record, 0)
+}
 
-impl Lenders {
-    fn of(records: &[Record]) -> Lenders {
-        let mut set = [0; 1024];
-        for record in records.iter().filter(|record| record[2] == 0) {
-            let action = u16_at(record, 0);
-            set[usize::from(action >> 6)] |= 1 << (action & 63);
-        }
-        Lenders(set)
-    }
-
-    fn has(&self, action: u16) -> bool {
-        self.0[usize::from(action >> 6)] >> (action & 63) & 1 == 1
-    }
+pub(crate) fn lender(record: &Record) -> u16 {
+    u16_at(record, 4)
 }
 
 fn allowed(byte: u8) -> bool {
@@ -46,36 +38,41 @@ fn good_text(record: &Record) -> bool {
     !text.is_empty() && text.iter().all(|&b| allowed(b)) && padding.iter().all(|&b| b == 0)
 }
 
-/// Whether a record is good, apart from the order of the actions.
-fn good(record: &Record, lends: impl Fn(u16) -> bool) -> bool {
-    let lender = u16_at(record, 4);
-    let zeros = record[3] == 0 && record[6] == 0 && record[7] == 0;
-    zeros
-        && match record[2] {
-            0 => lender == 0 && good_text(record),
-            1 => record[TEXT..].iter().all(|&b| b == 0) && lends(lender),
-            _ => false,
-        }
+pub(crate) fn spare_bytes_zero(record: &Record) -> bool {
+    record[3] == 0 && record[6] == 0 && record[7] == 0
 }
 
-/// The records of a good file, or refusal 9 or 10.
-fn good_records(file: &[u8]) -> Result<&[Record], Refusal> {
-    let Some(records) = records::<CATEGORY>(file, 0..=CATEGORIES) else {
-        return refused(9);
-    };
-    let lenders = Lenders::of(records);
-    first_faulty(records, |action| lenders.has(action))
+/// Whether a record is a good one of kind 0, apart from the order of the actions.
+pub(crate) fn own_text(record: &Record) -> bool {
+    record[2] == 0 && lender(record) == 0 && spare_bytes_zero(record) && good_text(record)
 }
 
-fn first_faulty(records: &[Record], lends: impl Fn(u16) -> bool) -> Result<&[Record], Refusal> {
+/// The records of a file, or refusal 9.
+pub(crate) fn table(file: &[u8]) -> Result<&[Record], Refusal> {
+    match records(file, 0..=CATEGORIES) {
+        Some(records) => Ok(records),
+        None => refused(9),
+    }
+}
+
+/// Nothing where every record is good and its action above the one before, or
+/// refusal 10.
+pub(crate) fn faultless(records: &[Record], good: impl Fn(&Record) -> bool) -> Result<(), Refusal> {
     let mut above = 0u32;
     for (number, record) in records.iter().enumerate() {
-        let action = u32::from(u16_at(record, 0));
-        if action < above || !good(record, &lends) {
+        let action = u32::from(action(record));
+        if action < above || !good(record) {
             return refused_at(10, number);
         }
         above = action + 1;
     }
+    Ok(())
+}
+
+/// The records of a good file, or refusal 9 or 10.
+fn good_records(file: &[u8]) -> Result<&[Record], Refusal> {
+    let records = table(file)?;
+    faultless(records, own_text)?;
     Ok(records)
 }
 
@@ -83,19 +80,6 @@ fn first_faulty(records: &[Record], lends: impl Fn(u16) -> bool) -> Result<&[Rec
 pub fn check(translation: &[u8], house: &[u8]) -> Result<(), Refusal> {
     good_records(translation)?;
     good_records(house)?;
-    Ok(())
-}
-
-/// The check with a search through the file for each lender in place of a set.
-/// The benchmark shows it beside the other.
-pub fn check_by_search(translation: &[u8], house: &[u8]) -> Result<(), Refusal> {
-    for file in [translation, house] {
-        let Some(records) = records::<CATEGORY>(file, 0..=CATEGORIES) else {
-            return refused(9);
-        };
-        let lends = |action| records.iter().any(|r| r[2] == 0 && u16_at(r, 0) == action);
-        first_faulty(records, lends)?;
-    }
     Ok(())
 }
 
@@ -108,17 +92,9 @@ pub struct Label {
     pub length: u32,
 }
 
-fn find(records: &[Record], action: u16) -> Option<usize> {
-    records.binary_search_by_key(&action, |r| u16_at(r, 0)).ok()
-}
-
-/// The record whose text is the label of an action in a good file.
-fn labelled(records: &[Record], action: u16) -> Option<usize> {
-    let number = find(records, action)?;
-    match records[number][2] {
-        0 => Some(number),
-        _ => find(records, u16_at(&records[number], 4)),
-    }
+/// The record of an action, where the actions ascend.
+pub(crate) fn find(records: &[Record], wanted: u16) -> Option<usize> {
+    records.binary_search_by_key(&wanted, action).ok()
 }
 
 /// The label of an action.
@@ -127,7 +103,7 @@ pub fn label(translation: &[u8], house: &[u8], action: u16) -> Label {
         return Label::default();
     };
     let found = |file: u32, records: &[Record]| {
-        labelled(records, action).map(|number| Label {
+        find(records, action).map(|number| Label {
             file,
             offset: (number * CATEGORY + TEXT) as u32,
             length: text_length(&records[number]) as u32,

@@ -1,12 +1,13 @@
 //! An independent implementation of document 01: the single firing, the
 //! category files, the tree check, the program's line, and the meaning of
 //! formulas on the graph of reachable markings. Of document 02: nets as PNML
-//! text (F-1), optional transitions (F-4) and the tree of a formula without
-//! "until" (F-5).
+//! text (F-1), optional transitions (F-4), the tree of a formula without "until"
+//! (F-5), and the end of borrowed labels (F-6).
 
 pub mod bytes;
 pub mod category;
 pub mod check;
+pub mod converted;
 pub mod formula;
 pub mod meaning;
 pub mod net;

@@ -2,7 +2,7 @@
 
 use reference::check::{NODE, Verdict};
 use reference::written::{Written, write};
-use reference::{category, check, net, pnml, pnml_definition};
+use reference::{category, check, converted, net, pnml, pnml_definition};
 
 fn lines(name: &str) -> Vec<(Vec<String>, String)> {
     let path = format!("{}/../vectors/{name}", env!("CARGO_MANIFEST_DIR"));
@@ -66,23 +66,24 @@ fn trees() {
     agree_on_trees("trees_4.txt", 160);
 }
 
-#[test]
-fn labels() {
-    agree("labels.txt", 800, |fields| {
+fn agree_on_labels(name: &str, count: usize) {
+    agree(name, count, |fields| {
         let (translation, house) = (bytes(&fields[0]), bytes(&fields[1]));
         let action = fields[2].parse().expect("an action");
         let (number, record) = match category::check(&translation, &house) {
             Ok(()) => (0, 0),
             Err(refusal) => (refusal.number, refusal.record),
         };
-        assert_eq!(
-            category::check(&translation, &house),
-            category::check_by_search(&translation, &house)
-        );
         let label = category::label(&translation, &house, action);
         let (file, offset, length) = (label.file, label.offset, label.length);
         format!("{number} {record} {file} {offset} {length}")
     });
+}
+
+#[test]
+fn labels() {
+    agree_on_labels("labels.txt", 621);
+    agree_on_labels("labels_6.txt", 160);
 }
 
 #[test]
@@ -162,5 +163,19 @@ fn written_trees() {
         assert_eq!(verdict, Verdict::Accepted { nodes });
         let tree = if nodes > LONG { "long" } else { &tree };
         format!("0 0 {side} {nodes} {tree}")
+    });
+}
+
+#[test]
+fn converted_files() {
+    agree("converted.txt", 160, |fields| {
+        let (file, mut room) = (bytes(&fields[0]), room(&fields[1]));
+        match converted::convert(&file, &mut room) {
+            Ok(rewritten) => format!("0 0 {rewritten} {}", written(&room, file.len())),
+            Err(refusal) => {
+                let nothing = written(&room, 0);
+                format!("{} {} 0 {nothing}", refusal.number, refusal.record)
+            }
+        }
     });
 }

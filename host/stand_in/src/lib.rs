@@ -1,7 +1,7 @@
 //! The C functions of documents 01 and 02 over the reference. It stands in for the archive
 //! while the tests themselves are tried out, and is no part of the gate.
 
-use reference::{category, check, net, pnml, written};
+use reference::{category, check, converted, net, pnml, written};
 
 /// # Safety
 /// The pointer is that of `len` readable bytes.
@@ -197,6 +197,32 @@ pub unsafe extern "C" fn desk_write_tree(
         *record = at;
         *side = true_side;
         *nodes = count;
+    }
+    number
+}
+
+/// # Safety
+/// See `include/desk.h`.
+#[unsafe(no_mangle)]
+pub unsafe extern "C" fn desk_convert_categories(
+    file: *const u8,
+    file_len: usize,
+    converted: *mut u8,
+    converted_len: usize,
+    record: *mut u64,
+    rewritten: *mut u64,
+) -> u32 {
+    let answer = unsafe {
+        let converted = room(converted, converted_len);
+        converted::convert(bytes(file, file_len), converted)
+    };
+    let (number, at, count) = match answer {
+        Ok(count) => (0, 0, count),
+        Err(refusal) => (refusal.number, refusal.record, 0),
+    };
+    unsafe {
+        *record = at;
+        *rewritten = count;
     }
     number
 }

@@ -1,7 +1,8 @@
 -- `category::check_file` meets its contract. Assumes nothing.
 use mathlib.Core.Path.{sym, _∙_}
 use borrow.Author.Needs.{needs}
-use Rattle.category.proofs.Answers.{file-size, file-record, file-good}
+use Rattle.category.specs.Faults.{fileFault}
+use Rattle.category.proofs.Answers.{told-size, told-record, told-good}
 use Rattle.category.proofs.check_file.Statement.{statement}
 use Rattle.category.proofs.check_file.Tie as tie
 
@@ -15,20 +16,23 @@ enum-told : tie.Need-enum-told
 enum-told c = search needs
 
 returns : tie.Need-returns
-returns c = file-size _ (sym (c .before .before .records .ensures) ∙ c .enum-told .given .1)
+unfolding fileFault
+returns c = told-size _ _ (sym (c .before .before .records .ensures) ∙ c .enum-told .given .1)
 
 first-bad-requires : tie.Need-first-bad-requires
 first-bad-requires c κs = search needs
 
 returns-2 : tie.Need-returns-2
+unfolding fileFault
 returns-2 c =
     let e = c .before .before .before in
-    file-record _ _ _ (sym (e .before .before .records .ensures) ∙ e .n .given .1) (c .before .first-bad .ensures) (c .if1 .taken)
+    told-record _ _ _ _ (sym (e .before .before .records .ensures) ∙ e .n .given .1) (c .before .first-bad .ensures) (c .if1 .taken)
 
 returns-3 : tie.Need-returns-3
+unfolding fileFault
 returns-3 c =
     let e = c .before .before .before in
-    file-good _ _ _ (sym (e .before .before .records .ensures) ∙ e .n .given .1) (c .before .first-bad .ensures) (c .if1 .left)
+    told-good _ _ _ _ (sym (e .before .before .records .ensures) ∙ e .n .given .1) (c .before .first-bad .ensures) (c .if1 .left)
 
 pub check-file-spec : {M : Type 1} → statement M
 check-file-spec =

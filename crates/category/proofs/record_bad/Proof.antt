@@ -1,23 +1,36 @@
 -- `category::record_bad` meets its contract. Assumes nothing.
-use native.Mathlib.Omega.{arith}
+use borrow.Author.Needs.{needs}
 use Rattle.category.specs.Faults.{recordBad}
-use Rattle.category.proofs.Ascent.{prefix-ascends, prefix-le}
 use Rattle.category.proofs.record_bad.Statement.{statement}
 use Rattle.category.proofs.record_bad.Tie as tie
 
-spare-zero-requires : tie.Need-spare-zero-requires
-spare-zero-requires c κs = omega (arith, prefix-le _ _ (c .before .pre .1))
+ascends-requires : tie.Need-ascends-requires
+ascends-requires c κs = search needs
 
-kind-good-requires : tie.Need-kind-good-requires
-kind-good-requires c κs = (omega (arith, prefix-le _ _ (c .before .before .pre .1)), c .before .before .pre .1)
+spare-zero-requires : tie.Need-spare-zero-requires
+spare-zero-requires c κs = search needs
+
+kind-at-requires : tie.Need-kind-at-requires
+kind-at-requires c κs = search needs
+
+own-good-requires : tie.Need-own-good-requires
+own-good-requires c κs = search needs
 
 returns : tie.Need-returns
 unfolding recordBad
-returns c = simp (
-  c .kind-good .ensures,
-  c .before .spare-zero .ensures,
-  prefix-ascends _ _ (c .before .before .before .pre .1) _ (c .before .before .before .pre .0),
-)
+returns c =
+    let b = c .before .before in
+    let head = rw (b .before .before .ascends .ensures, b .before .spare-zero .ensures, b .kind-at .ensures) at (c .before .if1 .taken) in
+    simp (c .own-good .ensures, head)
+
+returns-2 : tie.Need-returns-2
+unfolding recordBad
+returns-2 c =
+    let b = c .before in
+    let head = rw (b .before .before .ascends .ensures, b .before .spare-zero .ensures, b .kind-at .ensures) at (c .if1 .left) in
+    simp head
 
 pub record-bad-spec : {M : Type 1} → statement M
-record-bad-spec = tie.close (tie.spec spare-zero-requires kind-good-requires returns)
+record-bad-spec =
+    tie.close
+    (tie.spec ascends-requires spare-zero-requires kind-at-requires own-good-requires returns returns-2)

@@ -1,0 +1,54 @@
+-- The lengths of the records that are written: each is as long as a record, so that the converted file is as long as the file. Assumes
+-- nothing.
+use mathlib.Core.Path.{_≡_, refl, sym, ap₂, _∙_}
+use mathlib.Core.Bool.{Bool, true, false, cond}
+use mathlib.Core.List.{List}
+use Prim.Native.Nat.{ℕ, zero, suc, _+_, _*_, _≤_, _<_}
+use native.Mathlib.Nat.{suc-mul}
+use native.Mathlib.Omega.{arith}
+use lib.ListN.{length, take, drop, length-append, length-take, length-drop}
+use Rattle.tables.proofs.Counts.{record-inside}
+use Rattle.category.specs.Records.{count}
+use Rattle.category_borrowed.specs.Files.{borrows, valid}
+use Rattle.category_borrowed.specs.Lookup.{sourceAt}
+use Rattle.category_borrowed.specs.Converted.{withText, convertedRecord, convertedTo, converted}
+use Rattle.category_borrowed.proofs.Valid.{valid-length, source-inside}
+
+-- a part of a list
+pub length-part : (n at : ℕ) (l : List ℕ) → at + n ≤ length l → length (take n (drop at l)) ≡ n
+length-part n at l h = simp (length-take, length-drop) (omega arith)
+
+-- a record with another's text
+length-with-text : (file : List ℕ) (i s : ℕ) → i < count file → s < count file → length (withText file i s) ≡ 32
+unfolding withText
+length-with-text file i s l m =
+    simp (
+      length-append,
+      length-part 2 (i * 32) file (omega (arith, record-inside 32 (length file) i l)),
+      length-part 24 (s * 32 + 8) file (omega (arith, record-inside 32 (length file) s m)),
+    )
+
+-- a record as it is
+length-own : (file : List ℕ) (i : ℕ) → i < count file → length (take 32 (drop (i * 32) file)) ≡ 32
+length-own file i l = length-part 32 (i * 32) file (record-inside 32 (length file) i l)
+
+module _ (file : List ℕ) (v : valid file ≡ true) where
+  length-record : (i : ℕ) → i < count file → length (convertedRecord file i) ≡ 32
+  unfolding convertedRecord
+  length-record i l = by (borrows file i)
+    where
+      by : (b : Bool) → length (cond b (withText file i (sourceAt file i)) (take 32 (drop (i * 32) file))) ≡ 32
+      by true = length-with-text file i (sourceAt file i) l (source-inside file v i l)
+      by false = length-own file i l
+
+  pub length-to : (n : ℕ) → n ≤ count file → length (convertedTo file n) ≡ n * 32
+  unfolding convertedTo
+  length-to zero h = refl
+  length-to (suc n) h =
+      length-append (convertedTo file n) (convertedRecord file n)
+      ∙ ap₂ (λ (x y : ℕ). x + y) (length-to n (omega arith)) (length-record n h)
+      ∙ sym (suc-mul n 32)
+
+  pub length-converted : length (converted file) ≡ length file
+  unfolding converted
+  length-converted = length-to (count file) (omega arith) ∙ sym (valid-length file v)
