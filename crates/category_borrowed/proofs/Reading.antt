@@ -1,22 +1,18 @@
 -- What is read in the converted file of a valid one: the actions are the same, each record has kind 0, and its text is the one that it had by
 -- document 01. So the converted file is faultless. Assumes nothing.
-use mathlib.Core.Path.{_≡_, refl, sym, ap, ap₂, _∙_, subst}
+use mathlib.Core.Path.{_≡_, refl, ap, ap₂, _∙_, subst}
 use mathlib.Core.Bool.{true, false, not, _||_}
 use mathlib.Core.Logic.{⊎-elim}
 use mathlib.Core.List.{List, []}
 use Prim.Native.Nat.{ℕ, _-_, _/_, _<_}
-use native.Mathlib.Nat.{le-of-eq}
 use native.Mathlib.Omega.{arith}
 use lib.ListN.{length}
 use lib.Dec.{eqb, ltb}
 use borrow.Author.Tests.{eqb-true, eq-eqb}
 use Rattle.tables.specs.Bytes.{little, field}
-use Rattle.tables.specs.Lists.{first}
 use Rattle.tables.specs.Sizes.{sized}
 use Rattle.tables.specs.Faults.{Fault, noFault}
-use Rattle.tables.proofs.Counts.{sized-whole}
-use Rattle.tables.proofs.Entries.{first-none}
-use Rattle.tables.proofs.Scans.{scan-good}
+use Rattle.tables.proofs.Scans.{scan-clear}
 use Rattle.tables.proofs.Tests.{passed, and-left, and-right, and-intro}
 use Rattle.category.specs.Records.{count, actionAt, kindAt, lenderAt, spareZero}
 use Rattle.category.specs.Faults.{ascends, textGood, ownGood, recordBad, fileFault, faultless}
@@ -88,18 +84,13 @@ module _ (file : List ℕ) (v : valid file ≡ true) where
       (eq-eqb _ 0 (plain i l .kind)))
       (own-converted i l))
 
-  no-fault : noFault ≡ fileFault (converted file)
+  no-fault : fileFault (converted file) ≡ noFault
   unfolding fileFault
   no-fault =
-      scan-good 9 10 32 0 2000 (recordBad c) (length c) (count c) (first (recordBad c) (count c)) (sym (sized-whole 32 0 2000 (length c) whole)) refl
-      (le-of-eq (sym (first-none (recordBad c) (count c) (λ k l. record-converted k (subst (λ (n : ℕ). k < n) count-converted l)))))
-    where
-      c : List ℕ
-      c = converted file
-
-      whole : sized 32 0 2000 (length c) ≡ true
-      whole = ap (sized 32 0 2000) (length-converted file v) ∙ valid-sized file v
+      scan-clear 9 10 32 0 2000 (recordBad (converted file)) (length (converted file))
+      (ap (sized 32 0 2000) (length-converted file v) ∙ valid-sized file v)
+      (λ k l. record-converted k (subst (λ (n : ℕ). k < n) count-converted l))
 
   pub faultless-converted : faultless (converted file) ≡ true
   unfolding faultless
-  faultless-converted = ap (λ (f : Fault). eqb (f .number) 0) (sym no-fault)
+  faultless-converted = ap (λ (f : Fault). eqb (f .number) 0) no-fault

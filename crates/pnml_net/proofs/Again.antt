@@ -1,5 +1,5 @@
 -- Records that arcs and entries give: loading finds no fault in them, and their net has these arcs and entries. Assumes nothing.
-use mathlib.Core.Path.{_≡_, refl, sym, ap, _∙_, subst}
+use mathlib.Core.Path.{_≡_, sym, ap, _∙_, subst}
 use mathlib.Core.Bool.{Bool, true, false, cond, not, _&&_}
 use mathlib.Core.List.{List}
 use mathlib.Core.Logic.{_⊎_, inl, inr}
@@ -13,12 +13,9 @@ use borrow.Author.Tests.{ltb-true, le-leb, eq-eqb}
 use Rattle.tables.specs.Bytes.{field}
 use Rattle.tables.specs.Sizes.{sized}
 use Rattle.tables.specs.Faults.{noFault}
-use Rattle.tables.specs.Lists.{first}
 use Rattle.tables.proofs.Tests.{and-intro}
 use Rattle.tables.proofs.Below.{lt-or-ge}
-use Rattle.tables.proofs.Counts.{sized-whole}
-use Rattle.tables.proofs.Entries.{first-none}
-use Rattle.tables.proofs.Scans.{scan-good}
+use Rattle.tables.proofs.Scans.{scan-clear}
 use Rattle.bitset.specs.Sets.{within}
 use Rattle.net.specs.declared.Net.{Net}
 use Rattle.net.specs.Step.{preOf, postOf}
@@ -132,10 +129,7 @@ module _ (places : ℕ) (arcs : List Arc) (act : ℕ → ℕ) (n : ℕ) (fits : 
   table-good : noFault ≡ tableFault places table
   unfolding tableFault tableSized transitions
   table-good =
-      let k = length table / 24 in
-      let bad = recordBad places table in
-      let e : first bad k ≡ k = first-none bad k (λ t h. none-bad t (subst (λ (x : ℕ). t < x) count h)) in
-      scan-good 2 3 24 1 64 bad (length table) k (first bad k) (sym (sized-whole 24 1 64 (length table) is-sized)) refl (omega arith)
+      sym (scan-clear 2 3 24 1 64 (recordBad places table) (length table) is-sized (λ t h. none-bad t (subst (λ (x : ℕ). t < x) count h)))
 
   places-good : placesGood places ≡ true
   unfolding placesGood

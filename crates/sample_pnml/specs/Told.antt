@@ -1,29 +1,10 @@
--- What a room holds, and answers from their numbers. Assumes nothing.
-use Prim.Native.Nat.{ℕ, zero, suc, _+_, _*_, _%_}
-use mathlib.Core.Bool.{cond}
-use mathlib.Core.List.{List, [], _∷_}
-use lib.ListN.{getD}
-use lib.Dec.{eqb}
+-- Answers from their numbers. Assumes nothing.
+use mathlib.Core.List.{List}
+use Prim.Native.Nat.{ℕ}
 use Rattle.pnml_write.specs.Answer as writing
 use Rattle.pnml_read.specs.Answer as reading
 use Rattle.pnml_write.specs.declared.Numbers.{Numbers as Written}
 use Rattle.pnml_read.specs.declared.Numbers.{Numbers as Read}
-
--- how many of the first n bytes are b
-unfoldable pub count : (b : ℕ) → List ℕ → ℕ → ℕ
-count b l zero = 0
-count b l (suc n) = cond (eqb (getD l n 0) b) (count b l n + 1) (count b l n)
-
--- how many first bytes are the same
-unfoldable pub alike : List ℕ → List ℕ → ℕ
-alike [] m = 0
-alike (a ∷ l) [] = 0
-alike (a ∷ l) (b ∷ m) = cond (eqb a b) (suc (alike l m)) 0
-
--- the sum of the first n bytes, each by its place
-unfoldable pub checksum : List ℕ → ℕ → ℕ
-checksum l zero = 0
-checksum l (suc n) = (checksum l n * 257 + getD l n 0) % 1000003
 
 -- the writer's numbers and the room after, as its answer
 abbrev pub writer : Written → List ℕ → writing.Answer

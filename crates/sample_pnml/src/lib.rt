@@ -1,5 +1,4 @@
-// The samples of PNML: texts built from elements and bytes, the answers of the writer and of the reader in numbers, and what their room holds
-// afterwards.
+// The samples of PNML: texts built from elements and bytes, and the answers of the writer and of the reader in numbers.
 ghost use mathlib.Core.Path.{_≡_};
 ghost use Prim.Native.Nat.{_+_, _≤_, _<_};
 ghost use lib.ListN.{length};
@@ -138,50 +137,6 @@ pub fn put_often(table: &mut [u8], part: &[u8], n: u8)
         at = put_part(table, at, part);
         i += 1;
     }
-}
-
-// ---- what a room holds
-
-// How many of its bytes are b.
-pub fn count(room: &[u8], b: u8) -> usize
-    ensures { λ r. ⌜ r ≡ told.count b (now (room .entry)) (length (now (room .entry))) ⌝ }
-{
-    let mut n: usize = 0;
-    let mut i = 0;
-    while i < room.len() {
-        if room[i] == b {
-            n += 1;
-        }
-        i += 1;
-    }
-    n
-}
-
-// How many of the first bytes of two rooms are the same.
-pub fn alike(a: &[u8], b: &[u8]) -> usize
-    ensures { λ r. ⌜ r ≡ told.alike (now (a .entry)) (now (b .entry)) ⌝ }
-{
-    let mut i = 0;
-    while (i < a.len()) & (i < b.len()) {
-        if a[i] != b[i] {
-            return i;
-        }
-        i += 1;
-    }
-    i
-}
-
-// A sum in which each byte counts by its place.
-pub fn checksum(room: &[u8]) -> u64
-    ensures { λ r. ⌜ r ≡ told.checksum (now (room .entry)) (length (now (room .entry))) ⌝ }
-{
-    let mut sum: u64 = 0;
-    let mut i = 0;
-    while i < room.len() {
-        sum = (sum * 257 + room[i] as u64) % 1000003;
-        i += 1;
-    }
-    sum
 }
 
 // ---- answers

@@ -80,7 +80,7 @@ pub(crate) fn read_back(name: &[u8], text: &[u8], net: &[u8], room: &mut [u8]) {
     begin(b"back, ", name);
     numbers(said);
     told(b", text", text.len() as u64);
-    told(b", as the table", sample_pnml::alike(room, net) as u64);
+    told(b", as the table", sample_bytes::alike(room, net) as u64);
     told(b" of", net.len() as u64);
     end();
 }
@@ -89,7 +89,7 @@ pub(crate) fn read_back(name: &[u8], text: &[u8], net: &[u8], room: &mut [u8]) {
 pub(crate) fn show(name: &[u8], text: &[u8]) {
     begin(b"text, ", name);
     number(text.len() as u64);
-    told(b", checksum", sample_pnml::checksum(text));
+    told(b", checksum", sample_bytes::checksum(text));
     print(b", ");
     print(text);
     end();
@@ -100,7 +100,7 @@ pub(crate) fn outline(name: &[u8], text: &[u8]) {
     begin(b"text, ", name);
     let n = text.len();
     number(n as u64);
-    told(b", checksum", sample_pnml::checksum(text));
+    told(b", checksum", sample_bytes::checksum(text));
     print(b", ");
     print(first(text, 200));
     if n < 100 {

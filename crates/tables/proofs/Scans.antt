@@ -4,16 +4,15 @@ use mathlib.Core.Path.{_≡_, refl, sym, ap, _∙_}
 use mathlib.Core.Bool.{Bool, true, false, cond}
 use Prim.Native.Nat.{ℕ, _*_, _/_, _≤_, _<_}
 use native.Mathlib.Nat.{le-trans, le-of-eq, div-mul-le-self}
-use native.Mathlib.Omega.{arith}
 use lib.Dec.{ltb}
 use borrow.Author.Tests.{lt-ltb, le-ltb, ltb-false}
-use Rattle.tables.specs.declared.RecordCount.{RecordCount}
 use Rattle.tables.specs.declared.RecordCount.the-variants.{Whole, Refused}
 use Rattle.tables.specs.Lists.{first}
 use Rattle.tables.specs.Sizes.{sized, recordsOf}
-use Rattle.tables.specs.Faults.{Fault, noFault, fault, scanFault}
+use Rattle.tables.specs.Faults.{noFault, fault, scanFault}
 use Rattle.tables.proofs.Counts.{whole-sized, whole-count, refused-sized}
-use Rattle.tables.proofs.Entries.{first-ext, before-first}
+use Rattle.tables.proofs.Entries.{first-ext, first-none, before-first}
+use Rattle.tables.proofs.Tests.{if-true, if-false}
 
 module _ (sn rn size least most : ℕ) (bad : ℕ → Bool) (len : ℕ) where
   pub scan-size : recordsOf size least most len ≡ Refused → fault sn 0 ≡ scanFault sn rn size least most bad len
@@ -58,6 +57,13 @@ module _ (sn rn size least most : ℕ) (bad : ℕ → Bool) (len : ℕ) where
   scan-passed p q e =
       let r : (sized size least most len ≡ true) × (ltb (first bad (len / size)) (len / size) ≡ false) = passes _ _ (first bad (len / size)) p q e in
       (r .0, λ k h. before-first bad (len / size) k (le-trans h (ltb-false (first bad (len / size)) (len / size) (r .1))))
+
+  -- and a table of the right size with no bad record has no fault
+  pub scan-clear : sized size least most len ≡ true → ((k : ℕ) → k < len / size → bad k ≡ false) → scanFault sn rn size least most bad len ≡ noFault
+  unfolding scanFault
+  scan-clear s h =
+      if-true (sized size least most len) _ _ s
+      ∙ if-false _ _ _ (le-ltb (first bad (len / size)) (len / size) (le-of-eq (sym (first-none bad (len / size) h))))
 
 -- tests that agree on the records of a table find the same fault
 pub scan-ext : (sn rn size least most : ℕ) (bad worse : ℕ → Bool) (len : ℕ) → ((k : ℕ) → k < len / size → bad k ≡ worse k)

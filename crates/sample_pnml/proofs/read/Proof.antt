@@ -1,6 +1,6 @@
 -- `sample_pnml::read` meets its contract. Assumes nothing.
 use borrow.Author.Needs.{needs}
-use Rattle.sample_pnml.proofs.Rooms.{read-told}
+use Rattle.sample_pnml.proofs.Answers.{read-told}
 use Rattle.sample_pnml.proofs.read.Statement.{statement}
 use Rattle.sample_pnml.proofs.read.Tie as tie
 

@@ -1,6 +1,6 @@
 -- `sample_pnml::write` meets its contract. Assumes nothing.
 use borrow.Author.Needs.{needs}
-use Rattle.sample_pnml.proofs.Rooms.{write-told}
+use Rattle.sample_pnml.proofs.Answers.{write-told}
 use Rattle.sample_pnml.proofs.write.Statement.{statement}
 use Rattle.sample_pnml.proofs.write.Tie as tie
 

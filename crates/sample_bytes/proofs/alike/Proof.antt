@@ -1,13 +1,13 @@
--- `sample_pnml::alike` meets its contract. The invariant: the first i bytes are the same. Assumes nothing.
+-- `sample_bytes::alike` meets its contract. The invariant: the first i bytes are the same. Assumes nothing.
 use Prim.Native.Nat.{_≤_, _+_, _-_}
 use mathlib.Core.Path.{_≡_}
 use lib.ListN.{length, drop}
 use native.Mathlib.Omega.{arith}
 use borrow.Author.Needs.{needs}
-use Rattle.sample_pnml.specs.Told.{alike}
-use Rattle.sample_pnml.proofs.Rooms.{same-more, same-stop, same-end, within}
-use Rattle.sample_pnml.proofs.alike.Statement.{statement}
-use Rattle.sample_pnml.proofs.alike.Tie as tie
+use Rattle.sample_bytes.specs.Rooms.{alike}
+use Rattle.sample_bytes.proofs.Rooms.{same-more, same-stop, same-end, within}
+use Rattle.sample_bytes.proofs.alike.Statement.{statement}
+use Rattle.sample_bytes.proofs.alike.Tie as tie
 
 abbrev Inv-loop : tie.InvT-loop
 Inv-loop a b i₀ i = (i ≤ length a) × (alike a b ≡ i + alike (drop i a) (drop i b))

@@ -6,16 +6,10 @@ use mathlib.Core.List.{List, [], _∷_}
 use native.Mathlib.Numerals.{add-one}
 use native.Mathlib.Omega.{arith}
 use lib.ListN.{length, drop, getD, drop-of-length-le}
-use lib.Dec.{eqb, ltb}
+use lib.Dec.{ltb}
 use lib.Seq.{drop-cons}
 use borrow.Author.Tests.{eq-eqb, ne-eqb, ltb-true, ltb-false}
-use Rattle.pnml_write.specs.Answer as writing
-use Rattle.pnml_read.specs.Answer as reading
-use Rattle.pnml_write.specs.declared.Numbers.{Numbers as Written}
-use Rattle.pnml_read.specs.declared.Numbers.{Numbers as Read}
-use Rattle.pnml_write.specs.declared.Written.{Written as Result}
-use Rattle.pnml_read.specs.declared.ReadResult.{ReadResult}
-use Rattle.sample_pnml.specs.Told.{count, alike, checksum, writer, reader}
+use Rattle.sample_bytes.specs.Rooms.{count, alike, checksum}
 
 -- ---- count
 
@@ -96,15 +90,3 @@ checksum-all l i n p q e = let d : i ≡ length l = omega arith in rw d at e
 pub summed : (l : List ℕ) (i n : ℕ) → n ≡ checksum l i → (n * 257 + getD l i 0) % 1000003 ≡ checksum l (i + 1)
 unfolding checksum
 summed l i n e = rw (add-one i, e)
-
--- ---- answers in numbers
-
-pub write-told : (w : Result) (n : Written) (room : List ℕ) (a : writing.Answer) → writing.answerOf w room ≡ a
-    → (n .number ≡ writing.foundOf w .number) × (n .place ≡ writing.foundOf w .place) × (n .length ≡ writing.lengthOf w) → writer n room ≡ a
-write-told w n room a e h = simp (h .0, h .1, h .2) e
-
-pub read-told : (w : ReadResult) (n : Read) (room : List ℕ) (a : reading.Answer) → reading.answerOf w room ≡ a
-    → (n .number ≡ reading.numberOf w) × (n .place ≡ reading.placeOf w) × (n .places ≡ reading.foundOf w .places)
-    × (n .marking ≡ reading.foundOf w .marking) × (n .length ≡ reading.foundOf w .length)
-    → reader n room ≡ a
-read-told w n room a e h = simp (h .0, h .1, h .2, h .3, h .4) e

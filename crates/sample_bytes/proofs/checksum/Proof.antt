@@ -1,13 +1,13 @@
--- `sample_pnml::checksum` meets its contract. The invariant: the sum of those before i. Assumes nothing.
+-- `sample_bytes::checksum` meets its contract. The invariant: the sum of those before i. Assumes nothing.
 use Prim.Native.Nat.{_≤_, _<_, _-_}
 use mathlib.Core.Path.{_≡_}
 use lib.ListN.{length}
 use native.Mathlib.Omega.{arith}
 use borrow.Author.Needs.{needs}
-use Rattle.sample_pnml.specs.Told.{checksum}
-use Rattle.sample_pnml.proofs.Rooms.{summed, checksum-all}
-use Rattle.sample_pnml.proofs.checksum.Statement.{statement}
-use Rattle.sample_pnml.proofs.checksum.Tie as tie
+use Rattle.sample_bytes.specs.Rooms.{checksum}
+use Rattle.sample_bytes.proofs.Rooms.{summed, checksum-all}
+use Rattle.sample_bytes.proofs.checksum.Statement.{statement}
+use Rattle.sample_bytes.proofs.checksum.Tie as tie
 
 abbrev Inv-loop : tie.InvT-loop
 Inv-loop room sum₀ i₀ sum i = (i ≤ length room) × (sum < 1000003) × (sum ≡ checksum room i)

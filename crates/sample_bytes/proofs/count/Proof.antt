@@ -1,14 +1,14 @@
--- `sample_pnml::count` meets its contract. The invariant: those before i are counted. Assumes nothing.
+-- `sample_bytes::count` meets its contract. The invariant: those before i are counted. Assumes nothing.
 use Prim.Native.Nat.{_≤_, _-_}
 use mathlib.Core.Path.{_≡_, _∙_}
 use mathlib.Core.Logic.{⊎-elim}
 use lib.ListN.{length}
 use native.Mathlib.Omega.{arith}
 use borrow.Author.Needs.{needs}
-use Rattle.sample_pnml.specs.Told.{count}
-use Rattle.sample_pnml.proofs.Rooms.{counted, passed, count-all}
-use Rattle.sample_pnml.proofs.count.Statement.{statement}
-use Rattle.sample_pnml.proofs.count.Tie as tie
+use Rattle.sample_bytes.specs.Rooms.{count}
+use Rattle.sample_bytes.proofs.Rooms.{counted, passed, count-all}
+use Rattle.sample_bytes.proofs.count.Statement.{statement}
+use Rattle.sample_bytes.proofs.count.Tie as tie
 
 abbrev Inv-loop : tie.InvT-loop
 Inv-loop room b n₀ i₀ n i = (i ≤ length room) × (n ≤ i) × (n ≡ count b room i)
