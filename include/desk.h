@@ -85,10 +85,14 @@ uint32_t desk_check(const uint8_t *ask, size_t ask_len,
 
 /* What does firing one transition at the marking give? The answer is
  * DESK_GRANTED with *record 0 and the marking in *after; or 1 (places), 2, 3,
- * 7, 8 or 41 with the record, 0 except for 3, and *after 0. */
+ * 7, 8 or 41 with the record, 0 except for 3, and *after 0. With 41 *missing is
+ * the set of the places in pre that lack a token, *occupied that of the places
+ * in post that are occupied once pre is taken away; they share no place, and
+ * one at least is not 0. With any other answer both are 0. */
 uint32_t desk_fire(uint32_t places, uint64_t marking,
                    const uint8_t *net, size_t net_len,
-                   uint32_t transition, uint64_t *record, uint64_t *after);
+                   uint32_t transition, uint64_t *record, uint64_t *after,
+                   uint64_t *missing, uint64_t *occupied);
 
 /* Are the two category files in order? The answer is DESK_GRANTED with *record
  * 0, or 9 with *record 0, or 10 with the lowest faulty record. A fault of the
@@ -187,9 +191,11 @@ static inline uint32_t desk_check_bytes(const uint8_t *ask, size_t ask_len,
 /* desk_fire, where a net of length 0 may be NULL. */
 static inline uint32_t desk_fire_bytes(uint32_t places, uint64_t marking,
                                        const uint8_t *net, size_t net_len,
-                                       uint32_t transition, uint64_t *record, uint64_t *after)
+                                       uint32_t transition, uint64_t *record, uint64_t *after,
+                                       uint64_t *missing, uint64_t *occupied)
 {
-    return desk_fire(places, marking, desk_table(net), net_len, transition, record, after);
+    return desk_fire(places, marking, desk_table(net), net_len, transition, record, after,
+                     missing, occupied);
 }
 
 /* desk_categories, where a file of length 0 may be NULL. */

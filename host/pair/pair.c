@@ -9,7 +9,8 @@
 #include <time.h>
 
 typedef uint32_t check_call(const uint8_t *, size_t, const uint8_t *, size_t, const uint8_t *, size_t, const uint8_t *, size_t, uint64_t *);
-typedef uint32_t fire_call(uint32_t, uint64_t, const uint8_t *, size_t, uint32_t, uint64_t *, uint64_t *);
+/* An archive from before F-7 has no parameters for the two sets. By the convention of x86-64 (System V) it leaves these arguments alone. */
+typedef uint32_t fire_call(uint32_t, uint64_t, const uint8_t *, size_t, uint32_t, uint64_t *, uint64_t *, uint64_t *, uint64_t *);
 typedef uint32_t categories_call(const uint8_t *, size_t, const uint8_t *, size_t, uint64_t *);
 typedef void label_call(const uint8_t *, size_t, const uint8_t *, size_t, uint16_t, uint32_t *, uint32_t *, uint32_t *);
 
@@ -78,15 +79,19 @@ static table read_table(const char *folder, const char *name)
 /* One call of the archive before (0) or after (1): a number made of all it gives. */
 static uint64_t call(const bench_case *c, const table *t, int side)
 {
-    uint64_t place = 0, marking = 0;
-    uint32_t file = 0, offset = 0, length = 0;
+    /* The sets of a granted firing are 0, so that an archive that does not write them gives the same. */
+    uint64_t place = 0, marking = 0, missing = 0, occupied = 0;
+    uint32_t number, file = 0, offset = 0, length = 0;
     switch (c->kind) {
     case 't':
-        return checks[side](t[0].bytes, t[0].length, t[1].bytes, t[1].length, t[2].bytes, t[2].length, t[3].bytes, t[3].length, &place) ^ place << 32;
+        number = checks[side](t[0].bytes, t[0].length, t[1].bytes, t[1].length, t[2].bytes, t[2].length, t[3].bytes, t[3].length, &place);
+        return number ^ place << 32;
     case 'f':
-        return fires[side](c->places, c->marking, t[0].bytes, t[0].length, c->number, &place, &marking) ^ place << 32 ^ marking;
+        number = fires[side](c->places, c->marking, t[0].bytes, t[0].length, c->number, &place, &marking, &missing, &occupied);
+        return number ^ place << 32 ^ marking ^ missing << 8 ^ occupied << 16;
     case 'c':
-        return categories[side](t[0].bytes, t[0].length, t[1].bytes, t[1].length, &place) ^ place << 32;
+        number = categories[side](t[0].bytes, t[0].length, t[1].bytes, t[1].length, &place);
+        return number ^ place << 32;
     default:
         labels[side](t[0].bytes, t[0].length, t[1].bytes, t[1].length, (uint16_t)c->number, &file, &offset, &length);
         return file ^ (uint64_t)offset << 32 ^ length << 8;

@@ -222,16 +222,35 @@ static void check(const char *what, table ask, table net, table formulas, table 
     expect(what, "place", place, found);
 }
 
-static void fire(const char *what, uint32_t places, uint64_t marking, table net,
-                 uint32_t transition, uint32_t number, uint64_t record, uint64_t after)
+static void fire_with(const char *what, uint32_t places, uint64_t marking, table net,
+                      uint32_t transition, uint32_t number, uint64_t record, uint64_t after,
+                      uint64_t missing, uint64_t occupied)
 {
     uint64_t found_record = UNWRITTEN;
     uint64_t found_after = UNWRITTEN;
+    uint64_t found_missing = UNWRITTEN;
+    uint64_t found_occupied = UNWRITTEN;
     expect(what, "number", number,
            desk_fire_bytes(places, marking, net.bytes, net.len, transition, &found_record,
-                           &found_after));
+                           &found_after, &found_missing, &found_occupied));
     expect(what, "record", record, found_record);
     expect(what, "after", after, found_after);
+    expect(what, "missing", missing, found_missing);
+    expect(what, "occupied", occupied, found_occupied);
+}
+
+/* Any answer but 41: both sets are 0. */
+static void fire(const char *what, uint32_t places, uint64_t marking, table net,
+                 uint32_t transition, uint32_t number, uint64_t record, uint64_t after)
+{
+    fire_with(what, places, marking, net, transition, number, record, after, 0, 0);
+}
+
+/* 41 with its sets. */
+static void not_enabled(const char *what, uint32_t places, uint64_t marking, table net,
+                        uint32_t transition, uint64_t missing, uint64_t occupied)
+{
+    fire_with(what, places, marking, net, transition, DESK_NOT_ENABLED, 0, 0, missing, occupied);
 }
 
 static void categories(const char *what, table translation, table house, uint32_t number,
@@ -321,7 +340,8 @@ static void optional_transitions(void)
     check("R fails, t0 optional", fails, t0, formulas, keeps_t0, DESK_FAULT_CHILD, 0);
     check("R fails, both optional", fails, none, formulas, keeps_t0, DESK_FAULT_CONDITION, 0);
     fire("t1 optional, t1", 3, 3, t1, 1, DESK_GRANTED, 0, 5);
-    fire("t1 optional, t2", 3, 3, t1, 2, DESK_NOT_ENABLED, 0, 0);
+    not_enabled("t1 optional, t2", 3, 3, t1, 2, 4, 0);
+    not_enabled("t1 optional, t1", 3, 4, t1, 1, 2, 4);
 
     /* Rule 29 where t0 is optional and alone: then 24 and a leaf. */
     const node ends[2] = {
@@ -407,11 +427,11 @@ static void firings(void)
     uint64_t top = UINT64_C(1) << 63;
     put_transition(step.bytes, 1, 2, 0);
     fire("1 to 2 at 1", 2, 1, step, 0, DESK_GRANTED, 0, 2);
-    fire("1 to 2 at 3", 2, 3, step, 0, DESK_NOT_ENABLED, 0, 0);
+    not_enabled("1 to 2 at 3", 2, 3, step, 0, 0, 2);
     fire("1 to 1 at 1", 3, 1, r, 0, DESK_GRANTED, 0, 1);
     fire("no place touched", 64, top, nothing, 0, DESK_GRANTED, 0, top);
     fire("R fires 1", 3, 3, r, 1, DESK_GRANTED, 0, 5);
-    fire("R fires 2", 3, 3, r, 2, DESK_NOT_ENABLED, 0, 0);
+    not_enabled("R fires 2", 3, 3, r, 2, 4, 0);
     fire("R fires 3", 3, 3, r, 3, DESK_NO_TRANSITION, 0, 0);
     fire("R fires 259", 3, 3, r, 259, DESK_NO_TRANSITION, 0, 0);
     fire("R fires the largest", 3, 3, r, UINT32_MAX, DESK_NO_TRANSITION, 0, 0);
@@ -429,6 +449,56 @@ static void firings(void)
                           : records == 1 ? DESK_NO_TRANSITION : DESK_GRANTED;
         fire("net size", 3, 3, other, 1, number, 0, number == 0 ? 5 : 0);
     }
+}
+
+/* The sets of one transition with 64 places, alone and as the last of 64. */
+static void reasons(void)
+{
+    static const struct {
+        const char *what;
+        uint64_t pre, post, marking, missing, occupied;
+    } cases[] = {
+        {"1 to 2 at 3", 1, 2, 3, 0, 2},
+        {"1 to 2 at 0", 1, 2, 0, 1, 0},
+        {"1 to 2 at 2", 1, 2, 2, 1, 2},
+        {"1 to 3 at 3", 1, 3, 3, 0, 2},
+        {"3 to 3 at 0", 3, 3, 0, 3, 0},
+        {"3 to 3 at 1", 3, 3, 1, 2, 0},
+        {"3 to 5 at 5", 3, 5, 5, 2, 4},
+        {"3 to 5 at all but 2", 3, 5, UINT64_MAX - 2, 2, 4},
+        {"nothing to 5 at 6", 0, 5, 6, 0, 4},
+        {"5 to nothing at 6", 5, 0, 6, 1, 0},
+        {"place 63 to 0", UINT64_C(1) << 63, 1, 1, UINT64_C(1) << 63, 1},
+        {"place 0 to 63", 1, UINT64_C(1) << 63, UINT64_C(1) << 63, 1, UINT64_C(1) << 63},
+        {"all missing", UINT64_MAX, UINT64_MAX, 0, UINT64_MAX, 0},
+        {"all occupied", 0, UINT64_MAX, UINT64_MAX, 0, UINT64_MAX},
+        {"every second", UINT64_MAX / 3, UINT64_MAX / 3 * 2, UINT64_MAX / 3 * 2,
+         UINT64_MAX / 3, UINT64_MAX / 3 * 2},
+        {"high to low", UINT64_MAX << 32, UINT32_MAX, UINT32_MAX, UINT64_MAX << 32, UINT32_MAX},
+    };
+    for (size_t i = 0; i < sizeof cases / sizeof cases[0]; i++) {
+        table one = empty_table(DESK_TRANSITION_BYTES);
+        table last = empty_table(DESK_TRANSITIONS_MAX * DESK_TRANSITION_BYTES);
+        put_transition(one.bytes, cases[i].pre, cases[i].post, 0);
+        put_transition(last.bytes + 63 * DESK_TRANSITION_BYTES, cases[i].pre, cases[i].post, 0);
+        uint64_t marking = cases[i].marking, missing = cases[i].missing;
+        uint64_t occupied = cases[i].occupied;
+        not_enabled(cases[i].what, 64, marking, one, 0, missing, occupied);
+        not_enabled(cases[i].what, 64, marking, last, 63, missing, occupied);
+        fire(cases[i].what, 64, marking, last, 62, DESK_GRANTED, 0, marking);
+        fire(cases[i].what, 64, marking, one, 1, DESK_NO_TRANSITION, 0, 0);
+        fire(cases[i].what, 64, marking, changed(one, 23, 1), 0, DESK_BAD_TRANSITION, 0, 0);
+        fire(cases[i].what, 64, marking, resized(one, 23), 0, DESK_BAD_NET_SIZE, 0, 0);
+        fire(cases[i].what, 65, marking, one, 0, DESK_BAD_ASK, 0, 0);
+        /* Where the reasons are gone it fires. */
+        marking = (marking | missing) & ~occupied;
+        fire(cases[i].what, 64, marking, one, 0, DESK_GRANTED, 0,
+             (marking & ~cases[i].pre) | cases[i].post);
+    }
+    table step = empty_table(DESK_TRANSITION_BYTES);
+    put_transition(step.bytes, 1, 2, 0);
+    not_enabled("1 to 2 of two places", 2, 2, step, 0, 1, 2);
+    fire("1 to 2 at 6 of two places", 2, 6, step, 0, DESK_BAD_MARKING, 0, 0);
 }
 
 /* The most bytes that a text can have. */
@@ -1332,6 +1402,8 @@ int main(int argc, char **argv)
     sizes_at_the_limit();
     give_back();
     firings();
+    give_back();
+    reasons();
     give_back();
     labels();
     give_back();

@@ -12,7 +12,7 @@ use lib.Pow.{shr-shr}
 use lib.Dec.{eqb, eqb·zero-suc, eqb·suc-zero, eqb·suc-suc}
 use borrow.Author.Tests.{eqb-true, eqb-false}
 use Rattle.tables.proofs.Tests.{passed}
-use Rattle.bitset.specs.Sets.{member, difference, union}
+use Rattle.bitset.specs.Sets.{member, difference, intersection, union}
 
 -- ---- digits
 
@@ -68,6 +68,10 @@ member-and a b k =
     ap (λ (x : ℕ). eqb (x % 2) 1) (and-shr a b k)
     ∙ ap (λ (x : ℕ). eqb x 1) (and-digit (a / 2 ^ k) (b / 2 ^ k))
     ∙ test-min _ _ (digit-lt (a / 2 ^ k)) (digit-lt (b / 2 ^ k))
+
+pub member-intersection : (a b k : ℕ) → member (intersection a b) k ≡ (member a k && member b k)
+unfolding intersection
+member-intersection = member-and
 
 pub member-union : (a b k : ℕ) → member (union a b) k ≡ (member a k || member b k)
 unfolding member union

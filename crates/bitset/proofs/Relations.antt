@@ -1,19 +1,19 @@
 -- What the tests of two sets say of their members; the sets below a bound; the sets that a loop collects. For all numbers.
 -- Assumes nothing.
 use mathlib.Core.Path.{_≡_, refl, sym, ap, ap₂, _∙_, subst}
-use mathlib.Core.Bool.{Bool, true, false, cond, _&&_, _||_, or-false, true≢false, false≢true}
+use mathlib.Core.Bool.{Bool, true, false, cond, not, _&&_, _||_, and-true, or-false, true≢false, false≢true}
 use mathlib.Core.Logic.{_⊎_, inl, inr}
-use Prim.Native.Nat.{ℕ, zero, suc, _+_, _*_, _/_, _%_, _^_, _≤_, _<_}
-use native.Mathlib.Nat.{add-comm, add-zero, one-mul, div-eq-of-lt, two-pow-succ, lt-of-lt-of-le, div-add-mod', mod-lt, lt-suc-self, lt-trans}
+use Prim.Native.Nat.{ℕ, zero, suc, _+_, _-_, _*_, _/_, _%_, _^_, _≤_, _<_}
+use native.Mathlib.Nat.{add-comm, add-zero, one-mul, div-eq-of-lt, mod-eq-of-lt, two-pow-succ, le-of-lt, lt-of-lt-of-le, div-add-mod', mod-lt, lt-suc-self, lt-trans}
 use native.Mathlib.Numerals.{add-one}
 use native.Mathlib.Omega.{arith}
-use lib.Bits.{bitAnd, bitOr, or-shifted, or-comm, and-comm}
+use lib.Bits.{bitAnd, bitOr, or-shifted, or-comm, and-comm, and-le-l, and-mask}
 use lib.Pow.{pow-pos, pow-mono, shl-exact}
 use lib.Dec.{eqb, ltb}
-use borrow.Author.Tests.{eqb-true, eq-eqb, eqb-false, lt-ltb, le-ltb, ltb-true, ltb-false}
-use Rattle.bitset.specs.Sets.{member, subset, disjoint, union, within, collect, add}
+use borrow.Author.Tests.{eqb-true, eq-eqb, eqb-false, lt-ltb, le-ltb, ltb-true, ltb-false, not-true}
+use Rattle.bitset.specs.Sets.{member, subset, disjoint, difference, union, within, collect, add, beyond}
 use Rattle.tables.proofs.Tests.{passed, and-left, and-right, and-intro, same-test, failed}
-use Rattle.bitset.proofs.Membership.{member-and, member-union, member-empty, member-bit, member-shift, set-ext, some-member}
+use Rattle.bitset.proofs.Membership.{member-and, member-union, member-difference, and-complement, member-empty, member-bit, member-shift, set-ext, some-member}
 
 -- ---- subset
 
@@ -30,6 +30,14 @@ member-subset a b h = eq-eqb (bitAnd a b) a (set-ext (bitAnd a b) a same)
     same k =
         same-test (member (bitAnd a b) k) (member a k) (λ p. and-left (member a k) (member b k) (sym (member-and a b k) ∙ p))
         (λ p. member-and a b k ∙ and-intro (member a k) (member b k) p (h k p))
+
+-- each member of a is in b exactly where none is left without those of b
+pub subset-difference : (a b : ℕ) → subset a b ≡ eqb (difference a b) 0
+unfolding subset difference
+subset-difference a b =
+    same-test (eqb (bitAnd a b) a) (eqb (a - bitAnd a b) 0)
+    (λ h. eq-eqb (a - bitAnd a b) 0 (omega (arith, eqb-true (bitAnd a b) a h)))
+    (λ h. eq-eqb (bitAnd a b) a (omega (arith, eqb-true (a - bitAnd a b) 0 h, and-le-l a b)))
 
 pub subset-refl : (a : ℕ) → subset a a ≡ true
 subset-refl a = member-subset a a (λ k p. p)
@@ -195,3 +203,63 @@ unfolding collect
 collect-ext f g zero h = refl
 collect-ext f g (suc n) h =
     ap₂ (λ (x : ℕ) b. x + cond b (2 ^ n) 0) (collect-ext f g n (λ k p. h k (lt-trans p (lt-suc-self n)))) (h n (lt-suc-self n))
+
+-- ---- the numbers beyond a bound
+
+-- all numbers below n
+collect-all : (n : ℕ) → collect (λ _. true) n ≡ 2 ^ n - 1
+unfolding collect
+collect-all zero = refl
+collect-all (suc n) =
+    let p : 0 < 2 ^ n = pow-pos n in
+    let e : collect (λ _. true) n ≡ 2 ^ n - 1 = collect-all n in
+    omega (arith, two-pow-succ n)
+
+member-below : (n k : ℕ) → member (2 ^ n - 1) k ≡ ltb k n
+member-below n k = ap (λ (s : ℕ). member s k) (sym (collect-all n)) ∙ member-collect (λ _. true) n k ∙ and-true (ltb k n)
+
+pub member-beyond : (w n k : ℕ) → member (beyond w n) k ≡ (ltb k w && not (ltb k n))
+unfolding beyond
+member-beyond w n = member-collect (λ k. not (ltb k n)) w
+
+-- the complement of those below n, at a width that holds them
+pub beyond-complement : (w n : ℕ) → n < w → (2 ^ w - 1) - (2 ^ n - 1) ≡ beyond w n
+beyond-complement w n h =
+    let p : 0 < 2 ^ w = pow-pos w in
+    let q : 2 ^ n ≤ 2 ^ w = pow-mono (le-of-lt h) in
+    let c : ℕ = (2 ^ w - 1) - (2 ^ n - 1) in
+    let low : c < 2 ^ w = omega (arith, p) in
+    let whole : bitAnd (2 ^ w - 1) c ≡ c = and-comm (2 ^ w - 1) c ∙ and-mask c w ∙ mod-eq-of-lt low in
+    sym whole
+    ∙ and-complement w (2 ^ w - 1) (2 ^ n - 1) (omega (arith, p)) (omega (arith, p, q))
+    ∙ set-ext (difference (2 ^ w - 1) (2 ^ n - 1)) (beyond w n)
+    (λ k. member-difference (2 ^ w - 1) (2 ^ n - 1) k ∙ ap₂ (λ a b. a && not b) (member-below w k) (member-below n k) ∙ sym (member-beyond w n k))
+
+-- none is below w and beyond a bound from w on
+pub beyond-none : (w n : ℕ) → w ≤ n → 0 ≡ beyond w n
+beyond-none w n h = set-ext 0 (beyond w n) (λ k. member-empty k ∙ sym (member-beyond w n k ∙ by k (passed (ltb k w))))
+  where
+    by : (k : ℕ) → (ltb k w ≡ true) ⊎ (ltb k w ≡ false) → (ltb k w && not (ltb k n)) ≡ false
+    by k (inl e) = ap₂ (λ a b. a && not b) e (lt-ltb k n (lt-of-lt-of-le (ltb-true k w e) h))
+    by k (inr e) = ap (λ a. a && not (ltb k n)) e
+
+-- a set of w digits has no member beyond n exactly where it is within n
+pub disjoint-beyond : (w n s : ℕ) → s < 2 ^ w → disjoint s (beyond w n) ≡ within n s
+disjoint-beyond w n s l = same-test (disjoint s (beyond w n)) (within n s) there back
+  where
+    there : disjoint s (beyond w n) ≡ true → within n s ≡ true
+    there h = member-within n s (λ k p. by k p (passed (ltb k n)))
+      where
+        by : (k : ℕ) → member s k ≡ true → (ltb k n ≡ true) ⊎ (ltb k n ≡ false) → k < n
+        by k p (inl e) = ltb-true k n e
+        by k p (inr e) =
+            absurd
+            (disjoint-member s (beyond w n) h k p
+            (member-beyond w n k ∙ ap₂ (λ a b. a && not b) (lt-ltb k w (member-lt w s l k p)) e))
+
+    back : within n s ≡ true → disjoint s (beyond w n) ≡ true
+    back h =
+        member-disjoint s (beyond w n)
+        (λ k p q.
+        true≢false
+        (sym (lt-ltb k n (within-member n s h k p)) ∙ not-true (ltb k n) (and-right (ltb k w) (not (ltb k n)) (sym (member-beyond w n k) ∙ q))))

@@ -1,8 +1,8 @@
 -- Sets of small numbers, each written as one number: k is in s where binary digit k of s is 1. Document 01: "A marking is one
--- 64-bit number, bit k for place k", and a set of transitions is such a number too. Nothing here speaks of a width.
+-- 64-bit number, bit k for place k", and a set of transitions is such a number too. Nothing here speaks of a width but `beyond`.
 -- Assumes nothing.
 use Prim.Native.Nat.{ℕ, zero, suc, _+_, _-_, _/_, _%_, _^_}
-use mathlib.Core.Bool.{Bool, true, false, cond, _&&_}
+use mathlib.Core.Bool.{Bool, true, false, cond, not, _&&_}
 use mathlib.Core.List.{List, [], _∷_, _++_}
 use lib.Bits.{bitAnd, bitOr}
 use lib.Dec.{eqb, ltb}
@@ -22,6 +22,10 @@ disjoint a b = eqb (bitAnd a b) 0
 -- a without the members of b
 unfoldable pub difference : ℕ → ℕ → ℕ
 difference a b = a - bitAnd a b
+
+-- the members of a that are in b too
+unfoldable pub intersection : ℕ → ℕ → ℕ
+intersection a b = bitAnd a b
 
 -- the members of a and those of b
 unfoldable pub union : ℕ → ℕ → ℕ
@@ -44,3 +48,7 @@ collect f (suc n) = collect f n + cond (f n) (2 ^ n) 0
 unfoldable pub passing : (ℕ → Bool) → ℕ → List ℕ
 passing f zero = []
 passing f (suc n) = passing f n ++ cond (f n) (n ∷ []) []
+
+-- the numbers below w that are not below n
+unfoldable pub beyond : (w n : ℕ) → ℕ
+beyond w n = collect (λ k. not (ltb k n)) w

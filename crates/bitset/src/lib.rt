@@ -25,6 +25,13 @@ pub fn difference(a: u64, b: u64) -> u64
     a & !b
 }
 
+// The members of s that are in t too.
+pub fn intersection(s: u64, t: u64) -> u64
+    ensures { λ r. ⌜ r ≡ sets.intersection s t ⌝ }
+{
+    s & t
+}
+
 // The members of a and those of b.
 pub fn union(a: u64, b: u64) -> u64
     ensures { λ r. ⌜ r ≡ sets.union a b ⌝ }
@@ -69,6 +76,16 @@ pub fn within(n: u32, s: u64) -> bool
         return true;
     }
     s >> n == 0
+}
+
+// The numbers from n to 63.
+pub fn beyond(n: u32) -> u64
+    ensures { λ r. ⌜ r ≡ sets.beyond 64 n ⌝ }
+{
+    if 64 <= n {
+        return 0;
+    }
+    !(bit(n) - 1)
 }
 
 // How many members s has.

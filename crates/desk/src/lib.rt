@@ -60,7 +60,7 @@ pub extern "C" fn desk_check(
     outcome.number
 }
 
-// Fires one transition: 0 with the marking after, or the refusal with its record and marking 0.
+// Fires one transition: 0 with the marking after, or the refusal with its record and marking 0; with 41 both sets, otherwise these are 0.
 #[no_mangle]
 pub extern "C" fn desk_fire(
     places: u32,
@@ -69,12 +69,16 @@ pub extern "C" fn desk_fire(
     transition: u32,
     record: &mut u64,
     after: &mut u64,
+    missing: &mut u64,
+    occupied: &mut u64,
 ) -> u32
-    ensures { λ r. let f = firings.firing places marking (now (net .entry)) transition in ⌜ (r ≡ f .found .number) × (now («record» .exit) ≡ f .found .place) × (now (after .exit) ≡ f .marking) ⌝ }
+    ensures { λ r. let f = firings.firing places marking (now (net .entry)) transition in ⌜ (r ≡ f .found .number) × (now («record» .exit) ≡ f .found .place) × (now (after .exit) ≡ f .marking) × (now (missing .exit) ≡ f .missing) × (now (occupied .exit) ≡ f .occupied) ⌝ }
 {
     let fired = net::firing_numbers(net::fire(places, marking, net, transition));
     *record = fired.place;
     *after = fired.marking;
+    *missing = fired.missing;
+    *occupied = fired.occupied;
     fired.number
 }
 

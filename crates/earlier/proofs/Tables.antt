@@ -79,4 +79,4 @@ module _ (net : List ℕ) (plain : Unmarked net) where
 
   pub walk-is : (w : Walk) (places m : ℕ) → loadWalk w places m net ≡ earlierLoadWalk w places m net
   unfolding loadWalk loadAnswer earlierLoadWalk
-  walk-is w places m = ap₂ (λ f N. cond (granted f) (startedAt N m) w) (load-is places m) (net-is places)
+  walk-is w places m = ap₂ (λ f N. cond (granted (refuse f)) (startedAt N m) w) (load-is places m) (net-is places)

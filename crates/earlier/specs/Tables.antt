@@ -48,7 +48,7 @@ unfolding earlierTableFault
 earlierLoadFault places m bytes =
     cond (placesGood places) (orElse (earlierTableFault places bytes) (cond (within places m) noFault (fault 7 0))) (fault 1 0)
 
--- the single firing
+-- the single firing, with the two sets that document 02's F-7 has given to 41 since
 unfoldable pub earlierFiring : ℕ → ℕ → List ℕ → ℕ → Answer
 unfolding earlierLoadFault earlierNetOf
 earlierFiring places m bytes t =
@@ -57,4 +57,4 @@ earlierFiring places m bytes t =
 -- the walk after a load
 unfoldable pub earlierLoadWalk : Walk → ℕ → ℕ → List ℕ → Walk
 unfolding earlierLoadFault earlierNetOf
-earlierLoadWalk w places m bytes = cond (granted (earlierLoadFault places m bytes)) (startedAt (earlierNetOf places bytes) m) w
+earlierLoadWalk w places m bytes = cond (granted (refuse (earlierLoadFault places m bytes))) (startedAt (earlierNetOf places bytes) m) w

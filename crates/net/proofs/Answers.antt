@@ -2,13 +2,17 @@
 use mathlib.Core.Path.{_≡_, refl, sym, ap, ap₂, _∙_}
 use mathlib.Core.Bool.{Bool, true, false, cond, not}
 use mathlib.Core.List.{List}
-use Prim.Native.Nat.{ℕ, _≤_, _<_}
+use Prim.Native.Nat.{ℕ, _/_, _≤_, _<_}
 use native.Mathlib.Nat.{le-trans, le-of-eq}
 use native.Mathlib.Omega.{arith}
 use lib.ListN.{length}
-use lib.Dec.{eqb}
+use lib.Dec.{eqb, ltb}
 use borrow.Author.Tests.{lt-ltb, le-ltb, not-true, not-false, eqb-true, eqb-false}
 use Rattle.bitset.specs.Sets.{within}
+use Rattle.tables.specs.Faults.{scanFault}
+use Rattle.tables.specs.Lists.{first}
+use Rattle.tables.specs.Sizes.{sized}
+use Rattle.tables.proofs.Tests.{if-true, if-false}
 use Rattle.tables.proofs.Counts.{sized-most}
 use Rattle.tables.proofs.Scans.{scan-passed}
 use Rattle.tables.proofs.Entries.{getD-upTo}
@@ -16,22 +20,32 @@ use Rattle.net.specs.declared.Net.{Net}
 use Rattle.net.specs.declared.Refusal.{Refusal}
 use Rattle.net.specs.declared.Refusal.the-variants.{Places, Size, Record, Marking, Absent, Disabled}
 use Rattle.net.specs.declared.Checked.the-variants.{Good, Refused as Bad}
-use Rattle.net.specs.Step.{preOf, postOf, enabledBy, firedBy, enabled, fired}
+use Rattle.net.specs.Step.{preOf, postOf, enabledBy, missingBy, occupiedBy, firedBy, missing, occupied, fired}
 use Rattle.net.specs.Table.{preAt, postAt, transitions, netOf, placesGood, tableSized, recordBad}
-use Rattle.net.specs.Answer.{Fault, noFault, fault, refusal, checked, orElse, tableFault, loadFault, refuse, grant, stepAnswer, firing}
+use Rattle.net.specs.Answer.{Fault, noFault, fault, Answer, refuse, grant, disabledBy, refused, refusal, checked, orElse, tableFault, loadFault, disabled, stepAnswer, firing}
 use Rattle.net.proofs.Loops.{enabled-in}
 
 -- ---- 1 and 7
 
 -- each refusal has a number
 pub refusal-number : (r : Refusal) → eqb (refusal r .number) 0 ≡ false
-unfolding refusal
+unfolding refused
 refusal-number Places = refl
 refusal-number Size = refl
 refusal-number (Record r) = refl
 refusal-number Marking = refl
 refusal-number Absent = refl
-refusal-number Disabled = refl
+refusal-number (Disabled a b) = refl
+
+-- each but 41 has no sets
+refused-plain : (r : Refusal) → (refusal r .number ≡ 41 → ⊥) → refused r ≡ refuse (refusal r)
+unfolding refused
+refused-plain Places d = refl
+refused-plain Size d = refl
+refused-plain (Record r) d = refl
+refused-plain Marking d = refl
+refused-plain Absent d = refl
+refused-plain (Disabled a b) d = absurd (d refl)
 
 module _ (places m : ℕ) (bytes : List ℕ) where
   rest : Fault
@@ -87,6 +101,27 @@ module _ (places m : ℕ) (bytes : List ℕ) where
       let s = scan-passed 2 3 24 1 64 (recordBad places bytes) (length bytes) (λ q. omega arith) (λ q. omega arith) (r .2) in
       (r .0, s .0, s .1, r .1)
 
+  -- loading does not meet 41
+  pub load-other : loadFault places m bytes .number ≡ 41 → ⊥
+  unfolding loadFault tableFault scanFault
+  load-other =
+      let n = length bytes / 24 in
+      let f = first (recordBad places bytes) n in
+      by (placesGood places) (sized 24 1 64 (length bytes)) (ltb f n) (within places m) f
+    where
+      by : (p s b w : Bool) (k : ℕ)
+          → cond p (orElse (cond s (cond b (fault 3 k) noFault) (fault 2 0)) (cond w noFault (fault 7 0))) (fault 1 0) .number ≡ 41 → ⊥
+      by true true true w k e = omega (arith, e)
+      by true true false true k e = omega (arith, e)
+      by true true false false k e = omega (arith, e)
+      by true false b w k e = omega (arith, e)
+      by false s b w k e = omega (arith, e)
+
+  -- so what it meets comes without sets
+  pub load-plain : (r : Refusal) → checked (Bad r) ≡ loadFault places m bytes → refused r ≡ refuse (loadFault places m bytes)
+  unfolding checked
+  load-plain r e = refused-plain r (λ h. load-other (ap (λ f. f .number) (sym e) ∙ h)) ∙ ap refuse e
+
 -- ---- the decoded net
 
 -- it has at most 64 transitions
@@ -107,61 +142,45 @@ module _ (places : ℕ) (bytes : List ℕ) (sized : tableSized bytes ≡ true) (
   unfolding netOf
   decoded-post = getD-upTo (postAt bytes) (transitions bytes) 64 t h count-most
 
-  decoded-enabled : (m : ℕ) → enabled (netOf places bytes) m t ≡ enabledBy (preAt bytes t) (postAt bytes t) m
-  decoded-enabled m = enabled-in (netOf places bytes) m t below ∙ ap₂ (λ (a b : ℕ). enabledBy a b m) decoded-pre decoded-post
-    where
-      below : t < netOf places bytes .transitions
-      below = unfold netOf in h
-
 -- ---- the single firing
 
+-- a step with these sets
+stepBy : (pre post m : ℕ) → Answer
+stepBy pre post m = cond (enabledBy pre post m) (grant (firedBy pre post m)) (disabledBy (missingBy pre m) (occupiedBy pre post m))
+
+-- of a transition of the net
+step-in : (N : Net) (m t : ℕ) → t < N .transitions → stepAnswer N m t ≡ stepBy (preOf N t) (postOf N t) m
+unfolding stepAnswer disabled missing occupied fired stepBy
+step-in N m t h =
+    if-true _ _ _ (lt-ltb t (N .transitions) h)
+    ∙ ap (λ b. cond b (grant (fired N m t)) (disabled N m t)) (enabled-in N m t h)
+
 module _ (places m : ℕ) (bytes : List ℕ) (t : ℕ) where
-  pub fire-refused : (r : Refusal) → checked (Bad r) ≡ loadFault places m bytes → refuse (refusal r) ≡ firing places m bytes t
+  pub fire-refused : (r : Refusal) → checked (Bad r) ≡ loadFault places m bytes → refused r ≡ firing places m bytes t
   unfolding firing checked
-  fire-refused r e =
-      sym
-      (ap (λ f. cond (eqb (f .number) 0) (stepAnswer (netOf places bytes) m t) (refuse f)) (sym e)
-      ∙ ap (λ b. cond b (stepAnswer (netOf places bytes) m t) (refuse (refusal r))) (refusal-number r))
+  fire-refused r e = load-plain places m bytes r e ∙ sym (if-false _ _ _ (ap (λ f. eqb (f .number) 0) (sym e) ∙ refusal-number r))
 
-  stepped : checked Good ≡ loadFault places m bytes → firing places m bytes t ≡ stepAnswer (netOf places bytes) m t
-  unfolding firing checked
-  stepped e = ap (λ f. cond (eqb (f .number) 0) (stepAnswer (netOf places bytes) m t) (refuse f)) (sym e)
+  module _ (e : checked Good ≡ loadFault places m bytes) where
+    stepped : firing places m bytes t ≡ stepAnswer (netOf places bytes) m t
+    unfolding firing checked
+    stepped = ap (λ f. cond (eqb (f .number) 0) (stepAnswer (netOf places bytes) m t) (refuse f)) (sym e)
 
-  pub fire-absent : checked Good ≡ loadFault places m bytes → transitions bytes ≤ t → refuse (fault 8 0) ≡ firing places m bytes t
-  unfolding stepAnswer netOf
-  fire-absent e h =
-      sym
-      (stepped e
-      ∙ ap
-      (λ b. cond b (cond (enabled (netOf places bytes) m t) (grant (fired (netOf places bytes) m t)) (refuse (fault 41 0))) (refuse (fault 8 0)))
-      (le-ltb t (transitions bytes) h))
+    pub fire-absent : transitions bytes ≤ t → refuse (fault 8 0) ≡ firing places m bytes t
+    unfolding stepAnswer netOf
+    fire-absent h = sym (stepped ∙ if-false _ _ _ (le-ltb t (transitions bytes) h))
 
-  step-in : checked Good ≡ loadFault places m bytes → t < transitions bytes
-      → firing places m bytes t
-      ≡ cond (enabledBy (preAt bytes t) (postAt bytes t) m) (grant (firedBy (preAt bytes t) (postAt bytes t) m)) (refuse (fault 41 0))
-  unfolding stepAnswer checked fired netOf
-  step-in e h =
-      stepped e
-      ∙ ap
-      (λ b. cond b (cond (enabled (netOf places bytes) m t) (grant (fired (netOf places bytes) m t)) (refuse (fault 41 0))) (refuse (fault 8 0)))
-      (lt-ltb t (transitions bytes) h)
-      ∙ ap₂ (λ b (x : ℕ). cond b (grant x) (refuse (fault 41 0)))
-      (decoded-enabled places bytes whole t h m)
-      (ap₂ (λ (a b : ℕ). firedBy a b m) (decoded-pre places bytes whole t h) (decoded-post places bytes whole t h))
-    where
-      whole : tableSized bytes ≡ true
-      whole = load-passed places m bytes e .1
+    module _ (h : t < transitions bytes) (pre post : ℕ) (p : pre ≡ preAt bytes t) (q : post ≡ postAt bytes t) where
+      fire-by : stepBy pre post m ≡ firing places m bytes t
+      unfolding netOf checked
+      fire-by =
+          let whole = load-passed places m bytes e .1 in
+          ap₂ (λ (a b : ℕ). stepBy a b m) (p ∙ sym (decoded-pre places bytes whole t h)) (q ∙ sym (decoded-post places bytes whole t h))
+          ∙ sym (stepped ∙ step-in (netOf places bytes) m t h)
 
-  module _ (pre post : ℕ) (p : pre ≡ preAt bytes t) (q : post ≡ postAt bytes t) where
-    same : enabledBy pre post m ≡ enabledBy (preAt bytes t) (postAt bytes t) m
-    same = ap₂ (λ (a b : ℕ). enabledBy a b m) p q
+      pub fire-enabled : enabledBy pre post m ≡ true → grant (firedBy pre post m) ≡ firing places m bytes t
+      unfolding stepBy
+      fire-enabled b = sym (if-true _ _ _ b) ∙ fire-by
 
-    pub fire-enabled : checked Good ≡ loadFault places m bytes → t < transitions bytes → enabledBy pre post m ≡ true
-        → grant (firedBy pre post m) ≡ firing places m bytes t
-    fire-enabled e h b =
-        ap₂ (λ (x y : ℕ). grant (firedBy x y m)) p q
-        ∙ sym (step-in e h ∙ ap (λ o. cond o (grant (firedBy (preAt bytes t) (postAt bytes t) m)) (refuse (fault 41 0))) (sym same ∙ b))
-
-    pub fire-disabled : checked Good ≡ loadFault places m bytes → t < transitions bytes → enabledBy pre post m ≡ false
-        → refuse (fault 41 0) ≡ firing places m bytes t
-    fire-disabled e h b = sym (step-in e h ∙ ap (λ o. cond o (grant (firedBy (preAt bytes t) (postAt bytes t) m)) (refuse (fault 41 0))) (sym same ∙ b))
+      pub fire-disabled : enabledBy pre post m ≡ false → disabledBy (missingBy pre m) (occupiedBy pre post m) ≡ firing places m bytes t
+      unfolding stepBy
+      fire-disabled b = sym (if-false _ _ _ b) ∙ fire-by

@@ -2,4 +2,5 @@
 pub mod Step
 pub mod Table
 pub mod Answer
+pub mod Why
 pub mod Sequence

@@ -10,7 +10,7 @@ use borrow.Author.Tests.{eq-eqb, ne-eqb, le-leb, lt-leb}
 use Rattle.tables.proofs.Tests.{and-right, failed}
 use Rattle.net.specs.Table.{placesGood, transitionSize}
 use Rattle.net.specs.declared.Refusal.the-variants.{Places}
-use Rattle.net.specs.Answer.{fault, refusal, loadFault}
+use Rattle.net.specs.Answer.{fault, refused, loadFault}
 use Rattle.nodes.specs.declared.Ask.{Ask}
 use Rattle.nodes.specs.Nodes.{askSize, askOf}
 use Rattle.checker.specs.Outcomes.{askGood}
@@ -33,7 +33,7 @@ module _ (ask net room : List ℕ) where
   by-test b = cond b (writeAnswer (askOf ask .places) (askOf ask .marking) net room) (refuse (fault 1 0) room)
 
   ask-bad : askGood ask ≡ false → answerOf (Refused Places) room ≡ askAnswer ask net room
-  unfolding askAnswer foundOf lengthOf refusal
+  unfolding askAnswer foundOf lengthOf refused
   ask-bad e = sym (ap by-test e)
 
   pub ask-size : (length ask ≡ askSize → ⊥) → answerOf (Refused Places) room ≡ askAnswer ask net room

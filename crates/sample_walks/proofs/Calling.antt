@@ -7,7 +7,7 @@ use native.Mathlib.Omega.{arith}
 use lib.ListN.{getD}
 use borrow.Author.Tests.{ne-eqb}
 use Rattle.net.specs.declared.Numbers.{Numbers}
-use Rattle.net.specs.Answer.{Fault}
+use Rattle.net.specs.Answer.{Answer}
 use Rattle.walk.specs.declared.Walk.{Walk}
 use Rattle.walk.specs.Calls.{loadedAnswer, readMarking, readCount, readNext}
 use Rattle.walk.specs.History.{Call, load, fire, reset, answered, called}
@@ -16,7 +16,7 @@ use Rattle.sample_walks.specs.declared.Start.{Start}
 use Rattle.sample_walks.specs.Samples.{started, callOf, callAt, calledTo, after, told, seen}
 
 -- what is answered and left by the call k is so by its number
-pub by-number : (w v : Walk) (n : ℕ) (k : Call) (f : Fault) → callOf n ≡ k → f ≡ answered w k → v ≡ called w k
+pub by-number : (w v : Walk) (n : ℕ) (k : Call) (f : Answer) → callOf n ≡ k → f ≡ answered w k → v ≡ called w k
     → (f ≡ answered w (callOf n)) × (v ≡ called w (callOf n))
 by-number w v n k f e a l = (a ∙ ap (answered w) (sym e), l ∙ ap (called w) (sym e))
 
@@ -58,24 +58,29 @@ all-calls s w₀ w list i n a b e f = let d : i ≡ n = omega arith in e ∙ rw 
 
 -- ---- answers in numbers
 
--- what document 01's numbers of an answer are, where the answer is the fault f
-pub in-numbers : (r : Numbers) (g f : Fault) → (r .number ≡ g .number) × (r .place ≡ g .place) × (r .marking ≡ 0) → g ≡ f → r ≡ told f
+-- these are the numbers of an answer
+abbrev Numbered : Numbers → Answer → Type 0
+Numbered r a =
+    (r .number ≡ a .found .number) × (r .place ≡ a .found .place) × (r .marking ≡ a .marking) × (r .missing ≡ a .missing) × (r .occupied ≡ a .occupied)
+
+-- what document 01's numbers of an answer are, where the answer is a
+pub in-numbers : (r : Numbers) (g a : Answer) → Numbered r g → g ≡ a → r ≡ told a
 unfolding told
-in-numbers r g f n e = same ∙ ap told e
+in-numbers r g a n e = same ∙ ap told e
   where
     same : r ≡ told g
-    same = λ i. record { number = n .0 i; place = n .1 i; marking = n .2 i }
+    same = λ i. record { number = n .0 i; place = n .1 i; marking = n .2 i; missing = n .3 i; occupied = n .4 i }
 
 -- and of what is read
-pub in-seen : (w : Walk) (r : Numbers) (g : Fault) (m k s : ℕ) → (r .number ≡ g .number) × (r .place ≡ g .place) × (r .marking ≡ 0)
+pub in-seen : (w : Walk) (r : Numbers) (g : Answer) (m k s : ℕ) → Numbered r g
     → (g ≡ loadedAnswer w) × (m ≡ readMarking w) × (k ≡ readCount w) × (s ≡ readNext w)
     → record { number = r .number; place = r .place; marking = m; count = k; next = s } ≡ seen w
 unfolding seen
 in-seen w r g m k s n e =
     λ i.
     record {
-      number = (n .0 ∙ ap (λ f. f .number) (e .0)) i;
-      place = (n .1 ∙ ap (λ f. f .place) (e .0)) i;
+      number = (n .0 ∙ ap (λ a. a .found .number) (e .0)) i;
+      place = (n .1 ∙ ap (λ a. a .found .place) (e .0)) i;
       marking = e .1 i;
       count = e .2 i;
       next = e .3 i;

@@ -5,7 +5,7 @@ use mathlib.Core.List.{List, _∷_}
 use lib.ListN.{getD, replicate}
 use lib.Dec.{eqb, ltb}
 use Rattle.net.specs.declared.Numbers.{Numbers}
-use Rattle.net.specs.Answer.{Fault}
+use Rattle.net.specs.Answer.{Answer}
 use Rattle.walk.specs.declared.Walk.{Walk}
 use Rattle.walk.specs.State.{empty}
 use Rattle.walk.specs.Calls.{loadWalk, loadedAnswer, readMarking, readCount, readNext}
@@ -39,6 +39,10 @@ byHand h =
       next = h .next;
     }
 
+-- a new walk with a table loaded
+unfoldable pub loadedWith : (places m : ℕ) → List ℕ → Walk
+loadedWith places m bytes = loadWalk empty places m bytes
+
 unfoldable pub started : Start → Walk
 started New = empty
 started Full = full
@@ -66,11 +70,11 @@ after s list n = calledTo (started s) list n
 
 -- ---- in numbers
 
-unfoldable pub told : Fault → Numbers
-told f = record { number = f .number; place = f .place; marking = 0 }
+unfoldable pub told : Answer → Numbers
+told a = record { number = a .found .number; place = a .found .place; marking = a .marking; missing = a .missing; occupied = a .occupied }
 
 unfoldable pub seen : Walk → Seen
-seen w = record { number = loadedAnswer w .number; place = loadedAnswer w .place; marking = readMarking w; count = readCount w; next = readNext w }
+seen w = record { number = loadedAnswer w .found .number; place = loadedAnswer w .found .place; marking = readMarking w; count = readCount w; next = readNext w }
 
 -- what a walk carries of the transition t
 unfoldable pub fieldsOf : Walk → ℕ → Fields

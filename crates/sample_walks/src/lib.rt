@@ -175,11 +175,11 @@ pub fn loading(places: u32, marking: u64, net: &[u8]) -> Numbers
     walk::answer_numbers(answer)
 }
 
-// What is read after the first n calls of a list.
-pub fn reading(start: Start, list: &[u32], n: usize) -> Seen
-    ensures { λ r. ⌜ r ≡ samples.seen (samples.after start (now (list .entry)) n) ⌝ }
+// What is read from a walk.
+fn see(walk: Walk) -> Seen
+    ensures { λ r. ⌜ r ≡ samples.seen walk ⌝ }
 {
-    let read = after(start, list, n).read();
+    let read = walk.read();
     let answer = read.answer;
     let said = walk::answer_numbers(answer);
     Seen {
@@ -189,6 +189,39 @@ pub fn reading(start: Start, list: &[u32], n: usize) -> Seen
         count: read.count,
         next: read.next,
     }
+}
+
+// What is read after the first n calls of a list.
+pub fn reading(start: Start, list: &[u32], n: usize) -> Seen
+    ensures { λ r. ⌜ r ≡ samples.seen (samples.after start (now (list .entry)) n) ⌝ }
+{
+    see(after(start, list, n))
+}
+
+// Loads a table into a new walk and fires a transition.
+fn load_and_fire(places: u32, marking: u64, net: &[u8], t: u32) -> Outcome
+    ensures { λ r. let w = samples.loadedWith places marking (now (net .entry)) in ⌜ (calls.answerOf (r .answer) ≡ calls.fireAnswer w t) × (r .walk ≡ calls.fireWalk w t) ⌝ }
+{
+    let outcome = Walk::new().load(places, marking, net);
+    let loaded = outcome.walk;
+    loaded.fire(t)
+}
+
+// What firing a transition answers after a table is loaded into a new walk.
+pub fn firing(places: u32, marking: u64, net: &[u8], t: u32) -> Numbers
+    ensures { λ r. ⌜ r ≡ samples.told (calls.fireAnswer (samples.loadedWith places marking (now (net .entry))) t) ⌝ }
+{
+    let outcome = load_and_fire(places, marking, net, t);
+    let answer = outcome.answer;
+    walk::answer_numbers(answer)
+}
+
+// What is read after that firing.
+pub fn fired(places: u32, marking: u64, net: &[u8], t: u32) -> Seen
+    ensures { λ r. ⌜ r ≡ samples.seen (calls.fireWalk (samples.loadedWith places marking (now (net .entry))) t) ⌝ }
+{
+    let outcome = load_and_fire(places, marking, net, t);
+    see(outcome.walk)
 }
 
 // What the walk carries of transition t after the first n calls of a list; all zero from transition 64 on.

@@ -27,5 +27,5 @@ use Rattle.line.specs.Line as line
 use Rattle.samples.specs.Starred.{starred, Agree}
 
 pub agree : Agree starred
-unfolding starred Agree sets.member sets.subset sets.disjoint sets.difference sets.union sets.within sets.collect numbers.little numbers.field lists.tab lists.upTo lists.first sizes.sized faults.scanFault step.enabledBy step.firedBy step.conflictBy step.enabled step.fired step.touched step.conflict step.conflicts table.preAt table.postAt table.actionAt table.markAt table.optionalAt table.spareAt table.transitions table.netOf table.placesGood table.tableSized table.recordBad answer.tableFault answer.loadFault answer.stepAnswer answer.firing state.netIn state.startedAt state.movedTo state.empty below.everyBelow state.setsWithin state.transitionsGood state.netGood state.stateGood state.loaded calls.granted calls.loadAnswer calls.loadWalk calls.fireAnswer calls.fireWalk calls.loadedAnswer calls.readMarking calls.readCount calls.readNext count.onesIn count.ones sets.passing step.next step.urgent step.urgents step.keptAfter formulas.operatorAt formulas.spareAt formulas.leftAt formulas.rightAt formulas.actionAt formulas.formulas formulas.hasLeft formulas.hasRight formulas.hasAction formulas.operandGood formulas.fieldsGood formulas.formulaBad formulas.formulasSized formulas.formulasFault rows.table rows.rowOf rules.fits rules.elem rules.named rules.metBy rules.condition rules.sameAfter rules.nextOf rules.nextNamed rules.childrenOf rules.children rules.childTrail rules.carried rules.ranges rules.inRange nodes.askOf nodes.nodes nodes.sequentAt nodes.nodeAt links.counts links.parentGood links.named links.childrenGood links.linksGood trails.continues trails.trailTo trails.trail trails.onTrail family.same family.agree judged.rootGood judged.faultAt outcomes.askGood outcomes.treeSized outcomes.askInside outcomes.lastFault outcomes.restFault outcomes.inputFault outcomes.netFor outcomes.bad outcomes.firstBad outcomes.scanned outcomes.checkOutcome text.digits text.decimal line.acceptedLine lines.placedLine line.lineOf
+unfolding starred Agree sets.member sets.subset sets.disjoint sets.difference sets.intersection sets.union sets.within sets.collect numbers.little numbers.field lists.tab lists.upTo lists.first sizes.sized faults.scanFault step.enabledBy step.missingBy step.occupiedBy step.firedBy step.conflictBy step.enabled step.missing step.occupied step.fired step.touched step.conflict step.conflicts table.preAt table.postAt table.actionAt table.markAt table.optionalAt table.spareAt table.transitions table.netOf table.placesGood table.tableSized table.recordBad answer.tableFault answer.loadFault answer.disabled answer.stepAnswer answer.firing state.netIn state.startedAt state.movedTo state.empty below.everyBelow state.setsWithin state.transitionsGood state.netGood state.stateGood state.loaded calls.granted calls.loadAnswer calls.loadWalk calls.fireAnswer calls.fireWalk calls.loadedAnswer calls.readMarking calls.readCount calls.readNext count.onesIn count.ones sets.passing step.next step.urgent step.urgents step.keptAfter formulas.operatorAt formulas.spareAt formulas.leftAt formulas.rightAt formulas.actionAt formulas.formulas formulas.hasLeft formulas.hasRight formulas.hasAction formulas.operandGood formulas.fieldsGood formulas.formulaBad formulas.formulasSized formulas.formulasFault rows.table rows.rowOf rules.fits rules.elem rules.named rules.metBy rules.condition rules.sameAfter rules.nextOf rules.nextNamed rules.childrenOf rules.children rules.childTrail rules.carried rules.ranges rules.inRange nodes.askOf nodes.nodes nodes.sequentAt nodes.nodeAt links.counts links.parentGood links.named links.childrenGood links.linksGood trails.continues trails.trailTo trails.trail trails.onTrail family.same family.agree judged.rootGood judged.faultAt outcomes.askGood outcomes.treeSized outcomes.askInside outcomes.lastFault outcomes.restFault outcomes.inputFault outcomes.netFor outcomes.bad outcomes.firstBad outcomes.scanned outcomes.checkOutcome text.digits text.decimal line.acceptedLine lines.placedLine line.lineOf
 agree = refl

@@ -1,5 +1,5 @@
-// The samples of nets: firings, and which transitions conflict. A line has a name, and the answer's number, record and marking or the
-// set of the transitions in conflict.
+// The samples of nets: firings, and which transitions conflict. A line has a name, and the answer's number, record, marking and two sets or
+// the set of the transitions in conflict.
 use crate::lines::end;
 use crate::lines::number;
 use crate::names::print_name;
@@ -17,6 +17,8 @@ fn firing(names: &[u8], i: u32, places: u32, marking: u64, net: &[u8], t: u32) {
     number(said.number as u64);
     number(said.place);
     number(said.marking);
+    number(said.missing);
+    number(said.occupied);
     end();
 }
 
@@ -152,10 +154,31 @@ fn marks() {
     firing_byte(names, 8, 23, 1);
 }
 
+// Why a transition is not enabled: the places that lack a token, and those that are occupied. A place of pre may be in post.
+fn why() {
+    let names: &[u8] = b"1->2 at 0:\n\
+        1->2 at 2:\n\
+        3->3 at 1:\n\
+        1->3 at 3:\n\
+        3->2 at 3:\n\
+        place 63 lacks a token:\n\
+        place 63 is occupied:\n\
+        all 64 places lack a token:\n";
+    firing_one(names, 0, 2, 0, 1, 2);
+    firing_one(names, 1, 2, 2, 1, 2);
+    firing_one(names, 2, 2, 1, 3, 3);
+    firing_one(names, 3, 2, 3, 1, 3);
+    firing_one(names, 4, 2, 3, 3, 2);
+    firing_one(names, 5, 64, 0, 9223372036854775808, 0);
+    firing_one(names, 6, 64, 9223372036854775808, 0, 9223372036854775808);
+    firing_one(names, 7, 64, 0, 18446744073709551615, 0);
+}
+
 // All samples of nets.
 pub(crate) fn print_all() {
     starred();
     answers();
     spare();
     marks();
+    why();
 }

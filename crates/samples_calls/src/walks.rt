@@ -1,5 +1,5 @@
 // The samples of a walk: its calls, walks filled in by hand, which are loaded or not by their fields, and the full count. A line has a name
-// and the answer's number and record; where the walk is read, marking, count and stored set follow.
+// and the answer's number, record and two sets; where the walk is read, number, record, marking, count and stored set.
 use crate::lines::end;
 use crate::lines::number;
 use crate::lines::print;
@@ -23,10 +23,12 @@ fn begin(names: &[u8], i: u32) {
     print_name(names, i);
 }
 
-// Prints an answer's number and record.
+// Prints an answer's number, record and two sets.
 fn tell(said: Numbers) {
     number(said.number as u64);
     number(said.place);
+    number(said.missing);
+    number(said.occupied);
 }
 
 // Prints what is read.
@@ -59,6 +61,16 @@ fn carried(names: &[u8], i: u32, calls: &[u32], n: usize, t: usize) {
     number(fields.pre);
     number(fields.post);
     number(fields.action as u64);
+    end();
+}
+
+// Prints what firing the transition pre to post answers in a new walk at the marking, and what is read after it.
+fn firing(names: &[u8], i: u32, places: u32, marking: u64, pre: u64, post: u64) {
+    let net = sample_nets::transition(pre, post, 0);
+    begin(names, i);
+    tell(sample_walks::firing(places, marking, &net, 0));
+    print(b" read");
+    tell_seen(sample_walks::fired(places, marking, &net, 0));
     end();
 }
 
@@ -100,6 +112,26 @@ fn starred(calls: &[u32]) {
     answer(names, 6, Start::New, calls, 4);
     answer(names, 7, Start::New, calls, 5);
     reading(names, 8, Start::New, calls, 6);
+}
+
+// Why a transition is not enabled; the walk is as it was.
+fn why() {
+    let names: &[u8] = b"1->2 at 3, fire 0:\n\
+        1->2 at 0, fire 0:\n\
+        1->2 at 2, fire 0:\n\
+        3->3 at 1, fire 0:\n\
+        1->3 at 3, fire 0:\n\
+        3->2 at 3, fire 0:\n\
+        place 63 lacks a token, fire 0:\n\
+        place 63 is occupied, fire 0:\n";
+    firing(names, 0, 2, 3, 1, 2);
+    firing(names, 1, 2, 0, 1, 2);
+    firing(names, 2, 2, 2, 1, 2);
+    firing(names, 3, 2, 1, 3, 3);
+    firing(names, 4, 2, 3, 1, 3);
+    firing(names, 5, 2, 3, 3, 2);
+    firing(names, 6, 64, 0, 9223372036854775808, 0);
+    firing(names, 7, 64, 9223372036854775808, 0, 9223372036854775808);
 }
 
 // A refused load leaves the walk; a load over a load replaces it, and the entries after the new net's are zero.
@@ -440,6 +472,7 @@ pub(crate) fn print_all() {
         1,
     ];
     starred(calls);
+    why();
     refused();
     replaced(calls);
     again(calls);

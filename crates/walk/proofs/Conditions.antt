@@ -14,7 +14,7 @@ use Rattle.net.specs.Step.{preOf, postOf, enabled, fired}
 use Rattle.net.specs.Table.{preAt, postAt, markAt, spareAt, transitions, netOf, placesGood, tableSized, recordBad}
 use Rattle.tables.specs.Lists.{first}
 use Rattle.tables.specs.Faults.{scanFault}
-use Rattle.net.specs.Answer.{noFault, fault, orElse, tableFault, loadFault}
+use Rattle.net.specs.Answer.{noFault, fault, refuse, grant, orElse, tableFault, loadFault, disabled}
 use Rattle.net.proofs.Answers.{load-passed, decoded-pre, decoded-post}
 use Rattle.net.proofs.Independence.{moved-within}
 use Rattle.walk.specs.declared.Walk.{Walk}
@@ -38,7 +38,7 @@ load-none places m bytes =
     let n = length bytes / 24 in
     by (placesGood places) (sized 24 1 64 (length bytes)) (ltb (first (recordBad places bytes) n) n) (within places m) (first (recordBad places bytes) n)
   where
-    by : (p s f w : Bool) (k : ℕ) → granted (cond p (orElse (cond s (cond f (fault 3 k) noFault) (fault 2 0)) (cond w noFault (fault 7 0))) (fault 1 0)) ≡ true
+    by : (p s f w : Bool) (k : ℕ) → granted (refuse (cond p (orElse (cond s (cond f (fault 3 k) noFault) (fault 2 0)) (cond w noFault (fault 7 0))) (fault 1 0))) ≡ true
         → noFault ≡ cond p (orElse (cond s (cond f (fault 3 k) noFault) (fault 2 0)) (cond w noFault (fault 7 0))) (fault 1 0)
     by true true false true k e = refl
     by true true false false k e = absurd (false≢true e)
@@ -48,10 +48,12 @@ load-none places m bytes =
 
 -- a firing is granted where the walk is loaded, the transition is one of the net's and enabled, and the count is below 65,535
 pub grants-where : (w : Walk) (t : ℕ) → granted (fireAnswer w t) ≡ (loaded w && (enabled (netIn w) (w .present) t && ltb (w .count) 65535))
-unfolding fireAnswer granted enabled netIn
+unfolding fireAnswer granted enabled disabled netIn
 grants-where w t = by (loaded w) (ltb t (w .transitions)) _ (ltb (w .count) 65535)
   where
-    by : (l n e f : Bool) → granted (cond l (cond n (cond (n && e) (cond f noFault (fault 42 0)) (fault 41 0)) (fault 8 0)) (fault 40 0)) ≡ (l && ((n && e) && f))
+    by : (l n e f : Bool)
+        → granted (cond l (cond n (cond (n && e) (cond f (grant 0) (refuse (fault 42 0))) (disabled (netIn w) (w .present) t)) (refuse (fault 8 0))) (refuse (fault 40 0)))
+        ≡ (l && ((n && e) && f))
     by true true true true = refl
     by true true true false = refl
     by true true false f = refl
@@ -156,7 +158,7 @@ reset-needs : (w : Walk) → granted (loadedAnswer w) ≡ true → loaded w ≡ 
 unfolding loadedAnswer granted
 reset-needs w = by (loaded w)
   where
-    by : (l : Bool) → granted (cond l noFault (fault 40 0)) ≡ true → l ≡ true
+    by : (l : Bool) → granted (cond l (grant 0) (refuse (fault 40 0))) ≡ true → l ≡ true
     by true e = refl
     by false e = absurd (false≢true e)
 

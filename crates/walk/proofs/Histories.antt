@@ -1,7 +1,7 @@
 -- After any sequence of calls, the count of a walk is the number of firings granted since the last granted load or reset, its present marking is
 -- where these lead from the start, in the net of the last granted load, and its stored set is that of the transitions enabled there, so that firing
--- is granted for its members, while the count has room. Of a walk in any condition: a granted call leaves that set, and nothing else depends on the
--- stored number. Assumes nothing.
+-- is granted for its members, while the count has room. Of a walk in any condition: firing answers 41 with the sets that say why, a granted call
+-- leaves the set of the enabled transitions, and nothing else depends on the stored number. Assumes nothing.
 use mathlib.Core.Path.{_≡_, refl, sym, ap, subst, _∙_}
 use mathlib.Core.Bool.{Bool, true, false, cond, _&&_}
 use mathlib.Core.Logic.{_⊎_, inl, inr}
@@ -11,18 +11,22 @@ use Prim.Native.Nat.{ℕ, suc, _+_, _≤_, _<_, zero-le}
 use native.Mathlib.Nat.{add-zero, zero-add}
 use native.Mathlib.Omega.{arith}
 use lib.ListN.{length, length-append}
+use borrow.Author.Tests.{ltb-true}
 use Rattle.tables.proofs.Tests.{and-left, and-right, and-intro, if-true, if-false}
 use Rattle.net.specs.declared.Net.{Net}
 use lib.Dec.{ltb}
 use Rattle.bitset.specs.Sets.{member, collect}
-use Rattle.net.specs.Step.{enabled, fired, next}
+use Rattle.net.specs.Step.{enabled, missing, occupied, fired, next}
 use Rattle.net.specs.Table.{netOf}
+use Rattle.net.specs.Answer.{fault, Answer, refuse, grant, disabled}
 use Rattle.net.specs.Sequence.{after}
+use Rattle.net.specs.Why.{Explained}
 use Rattle.net.proofs.Loops.{next-member, enabled-out}
+use Rattle.net.proofs.Why.{other-explained, disabled-explained}
 use Rattle.walk.specs.declared.Walk.{Walk}
 use Rattle.walk.specs.State.{netIn, startedAt, movedTo, empty, storing, marked, StoresNext, loaded}
 use Rattle.walk.specs.Calls.{granted, loadAnswer, loadWalk, fireAnswer, fireWalk, loadedAnswer, resetWalk, readMarking, readCount, readNext}
-use Rattle.walk.specs.History.{Call, answered, called, run, Log, noCalls, logged, since, Follows, OffersSteps, LeavesNext, AnyStored, AnyMarks, fireAll, allGranted}
+use Rattle.walk.specs.History.{Call, answered, called, run, Log, noCalls, logged, since, Follows, OffersSteps, FireExplained, LeavesNext, AnyStored, AnyMarks, fireAll, allGranted}
 use Rattle.walk.specs.History.Call.{load, fire, reset}
 use Rattle.walk.proofs.Walks.{read-granted}
 use Rattle.walk.proofs.Conditions.{new-unloaded, grants-where, fire-needs, fire-grants, load-loaded, fire-loaded, run-loaded}
@@ -145,6 +149,24 @@ pub offers-steps : OffersSteps
 unfolding OffersSteps
 offers-steps cs t = offers (run empty cs) t (follows-new cs .next) (made cs)
 
+-- ---- why a step is refused
+
+pub fire-explained : FireExplained
+unfolding FireExplained fireAnswer netIn
+fire-explained w t = by (loaded w) (ltb t (w .transitions)) (enabled (netIn w) (w .present) t) (ltb (w .count) 65535) refl refl
+  where
+    plain : (a : Answer) → (a .found .number ≡ 41 → ⊥) → a .missing ≡ 0 → a .occupied ≡ 0 → Explained (netIn w) (w .present) t a
+    plain = other-explained (netIn w) (w .present) t
+
+    by : (l n e f : Bool) → ltb t (w .transitions) ≡ n → enabled (netIn w) (w .present) t ≡ e
+        → Explained (netIn w) (w .present) t
+        (cond l (cond n (cond e (cond f (grant 0) (refuse (fault 42 0))) (disabled (netIn w) (w .present) t)) (refuse (fault 8 0))) (refuse (fault 40 0)))
+    by true true true true p q = plain (grant 0) (λ d. omega (arith, d)) refl refl
+    by true true true false p q = plain (refuse (fault 42 0)) (λ d. omega (arith, d)) refl refl
+    by true true false f p q = disabled-explained (netIn w) (w .present) t (ltb-true t (w .transitions) p) q
+    by true false e f p q = plain (refuse (fault 8 0)) (λ d. omega (arith, d)) refl refl
+    by false n e f p q = plain (refuse (fault 40 0)) (λ d. omega (arith, d)) refl refl
+
 -- ---- the stored set
 
 pub leaves-next : LeavesNext
@@ -189,7 +211,7 @@ module _ (w : Walk) (n : ℕ) where
 
 module _ (w : Walk) (n : ℕ) where
   unmoved : (c : Call) → answered (marked w n) c ≡ answered w c
-  unfolding answered fireAnswer loadedAnswer loaded netIn enabled marked
+  unfolding answered fireAnswer loadedAnswer loaded netIn enabled disabled missing occupied marked
   unmoved (load places m bytes) = refl
   unmoved (fire t) = refl
   unmoved reset = refl
@@ -201,7 +223,7 @@ module _ (w : Walk) (n : ℕ) where
   either-way false m k = refl
 
   pub any-marks : AnyMarks w n
-  unfolding loadWalk fireWalk resetWalk readMarking readCount readNext fireAnswer loadedAnswer loaded netIn enabled fired marked
+  unfolding loadWalk fireWalk resetWalk readMarking readCount readNext fireAnswer loadedAnswer loaded netIn enabled disabled missing occupied fired marked
   any-marks =
       record {
         condition = refl;

@@ -4,18 +4,19 @@ use mathlib.Core.Bool.{Bool, true, false, cond, not, _&&_}
 use mathlib.Core.List.{List}
 use Prim.Native.Nat.{ℕ, _+_, _≤_, _<_}
 use lib.ListN.{getD}
-use lib.Dec.{ltb, leb}
+use lib.Dec.{eqb, ltb, leb}
 use borrow.Author.Tests.{lt-ltb, le-ltb, not-true, not-false, leb-true}
 use Rattle.bitset.specs.Sets.{within}
-use Rattle.tables.proofs.Tests.{and-left, and-right, and-intro, if-false}
+use Rattle.tables.proofs.Tests.{and-left, and-right, and-intro, if-true, if-false}
 use Rattle.net.specs.declared.Net.{Net}
 use Rattle.net.specs.declared.Refusal.{Refusal}
-use Rattle.net.specs.declared.Refusal.the-variants.{Places, Size, Record, Marking, Absent, Disabled}
+use Rattle.net.specs.declared.Refusal.the-variants.{Absent}
 use Rattle.net.specs.declared.Checked.the-variants.{Good, Refused as Bad}
-use Rattle.net.specs.Step.{enabledBy, firedBy, enabled, fired, next, arcs}
+use Rattle.net.specs.Step.{enabledBy, missingBy, occupiedBy, firedBy, enabled, missing, occupied, fired, next, arcs}
 use Rattle.net.specs.Table.{placesGood, netOf}
-use Rattle.net.specs.Answer.{Fault, noFault, fault, refusal, checked, loadFault}
+use Rattle.net.specs.Answer.{fault, Answer, refuse, grant, disabledBy, refused, checked, loadFault, disabled}
 use Rattle.net.proofs.Loops.{enabled-in, arcs-next}
+use Rattle.net.proofs.Answers.{refusal-number, load-plain}
 use Rattle.walk.specs.declared.Walk.{Walk}
 use Rattle.walk.specs.declared.Answer.the-variants.{Granted, Unloaded, Refused, Full}
 use Rattle.tables.specs.Below.{everyBelow}
@@ -42,31 +43,20 @@ moved-with w m n s q = ap (storing (movedTo w m n)) (q ∙ arcs-next (netIn w) m
 
 -- ---- load
 
--- no refusal has the number 0
-refusal-not : (r : Refusal) → granted (refusal r) ≡ false
-unfolding refusal granted
-refusal-not Places = refl
-refusal-not Size = refl
-refusal-not (Record r) = refl
-refusal-not Marking = refl
-refusal-not Absent = refl
-refusal-not Disabled = refl
-
 module _ (w : Walk) (places m : ℕ) (bytes : List ℕ) where
-  loads : (f : Fault) → f ≡ loadFault places m bytes → loadWalk w places m bytes ≡ cond (granted f) (startedAt (netOf places bytes) m) w
-  unfolding loadWalk loadAnswer
-  loads f e = ap (λ x. cond (granted x) (startedAt (netOf places bytes) m) w) (sym e)
-
   pub load-refused : (r : Refusal) → checked (Bad r) ≡ loadFault places m bytes
       → (answerOf (Refused r) ≡ loadAnswer places m bytes) × (w ≡ loadWalk w places m bytes)
-  unfolding answerOf checked loadAnswer
-  load-refused r e = (e, sym (loads (refusal r) e ∙ if-false _ _ w (refusal-not r)))
+  unfolding answerOf checked loadWalk loadAnswer granted
+  load-refused r e = (load-plain places m bytes r e, sym (if-false _ _ w (ap (λ f. eqb (f .number) 0) (sym e) ∙ refusal-number r)))
 
   pub load-granted : (N : Net) (s : ℕ) → checked Good ≡ loadFault places m bytes → N ≡ netOf places bytes
       → s ≡ next (arcs (N .transitions) (N .pre) (N .post)) m
       → (answerOf Granted ≡ loadAnswer places m bytes) × (storing (startedAt N m) s ≡ loadWalk w places m bytes)
-  unfolding answerOf checked loadAnswer granted
-  load-granted N s e d q = (e, started-with N m s q ∙ ap (λ n. startedAt n m) d ∙ sym (loads noFault e))
+  unfolding answerOf checked loadWalk loadAnswer granted
+  load-granted N s e d q = (
+    ap refuse e,
+    started-with N m s q ∙ ap (λ n. startedAt n m) d ∙ sym (if-true _ _ w (ap (λ f. eqb (f .number) 0) (sym e))),
+  )
 
 -- ---- loaded
 
@@ -154,25 +144,25 @@ module _ (w : Walk) where
   pub reset-refused : loaded w ≡ false → (answerOf Unloaded ≡ loadedAnswer w) × (w ≡ resetWalk w)
   unfolding answerOf loadedAnswer resetWalk granted
   reset-refused h =
-      (sym (ap (λ b. cond b noFault (fault 40 0)) h), sym (ap (λ b. cond (granted (cond b noFault (fault 40 0))) (movedTo w (w .start) 0) w) h))
+      (sym (ap (λ b. cond b (grant 0) (refuse (fault 40 0))) h), sym (ap (λ b. cond (granted (cond b (grant 0) (refuse (fault 40 0)))) (movedTo w (w .start) 0) w) h))
 
   granted-if : loaded w ≡ true → answerOf Granted ≡ loadedAnswer w
   unfolding answerOf loadedAnswer
-  granted-if h = sym (ap (λ b. cond b noFault (fault 40 0)) h)
+  granted-if h = sym (ap (λ b. cond b (grant 0) (refuse (fault 40 0))) h)
 
   pub reset-granted : (s : ℕ) → loaded w ≡ true → s ≡ next (arcs (w .transitions) (w .pre) (w .post)) (w .start)
       → (answerOf Granted ≡ loadedAnswer w) × (storing (movedTo w (w .start) 0) s ≡ resetWalk w)
   unfolding loadedAnswer resetWalk granted
   reset-granted s h q = (
     granted-if h,
-    moved-with w (w .start) 0 s q ∙ sym (ap (λ b. cond (granted (cond b noFault (fault 40 0))) (movedTo w (w .start) 0) w) h),
+    moved-with w (w .start) 0 s q ∙ sym (ap (λ b. cond (granted (cond b (grant 0) (refuse (fault 40 0)))) (movedTo w (w .start) 0) w) h),
   )
 
   reads : (b : Bool) (n : ℕ) → loaded w ≡ b → cond (granted (loadedAnswer w)) n 0 ≡ cond b n 0
   unfolding loadedAnswer granted
-  reads b n h = ap (λ x. cond (granted (cond x noFault (fault 40 0))) n 0) h ∙ same b
+  reads b n h = ap (λ x. cond (granted (cond x (grant 0) (refuse (fault 40 0)))) n 0) h ∙ same b
     where
-      same : (x : Bool) → cond (granted (cond x noFault (fault 40 0))) n 0 ≡ cond x n 0
+      same : (x : Bool) → cond (granted (cond x (grant 0) (refuse (fault 40 0)))) n 0 ≡ cond x n 0
       same true = refl
       same false = refl
 
@@ -190,40 +180,46 @@ module _ (w : Walk) where
 
 module _ (w : Walk) (t : ℕ) where
   -- the answer by its four tests
+  abbrev by-tests : (l n e f : Bool) → Answer
+  by-tests l n e f =
+      cond l (cond n (cond e (cond f (grant 0) (refuse (fault 42 0))) (disabled (netIn w) (w .present) t)) (refuse (fault 8 0))) (refuse (fault 40 0))
+
   answers : (l n e f : Bool) → loaded w ≡ l → ltb t (w .transitions) ≡ n → enabled (netIn w) (w .present) t ≡ e → ltb (w .count) 65535 ≡ f
-      → fireAnswer w t ≡ cond l (cond n (cond e (cond f noFault (fault 42 0)) (fault 41 0)) (fault 8 0)) (fault 40 0)
+      → fireAnswer w t ≡ by-tests l n e f
   unfolding fireAnswer
   answers l n e f p q r s =
-      ap₂ (λ x y. cond x (cond y (cond (enabled (netIn w) (w .present) t) (cond (ltb (w .count) 65535) noFault (fault 42 0)) (fault 41 0)) (fault 8 0)) (fault 40 0)) p q
-      ∙ ap₂ (λ x y. cond l (cond n (cond x (cond y noFault (fault 42 0)) (fault 41 0)) (fault 8 0)) (fault 40 0)) r s
+      ap₂ (λ x y. by-tests x y (enabled (netIn w) (w .present) t) (ltb (w .count) 65535)) p q ∙ ap₂ (λ x y. by-tests l n x y) r s
 
-  fires : (f : Fault) → fireAnswer w t ≡ f → fireWalk w t ≡ cond (granted f) (movedTo w (fired (netIn w) (w .present) t) (w .count + 1)) w
+  fires : (a : Answer) → fireAnswer w t ≡ a → fireWalk w t ≡ cond (granted a) (movedTo w (fired (netIn w) (w .present) t) (w .count + 1)) w
   unfolding fireWalk
-  fires f e = ap (λ x. cond (granted x) (movedTo w (fired (netIn w) (w .present) t) (w .count + 1)) w) e
+  fires a e = ap (λ x. cond (granted x) (movedTo w (fired (netIn w) (w .present) t) (w .count + 1)) w) e
 
   pub fire-unloaded : loaded w ≡ false → (answerOf Unloaded ≡ fireAnswer w t) × (w ≡ fireWalk w t)
   unfolding answerOf granted
-  fire-unloaded h = let e = answers false _ _ _ h refl refl refl in (sym e, sym (fires (fault 40 0) e))
+  fire-unloaded h = let e = answers false _ _ _ h refl refl refl in (sym e, sym (fires (refuse (fault 40 0)) e))
 
   pub fire-absent : loaded w ≡ true → w .transitions ≤ t → (answerOf (Refused Absent) ≡ fireAnswer w t) × (w ≡ fireWalk w t)
-  unfolding answerOf refusal granted
-  fire-absent h l = let e = answers true false _ _ h (le-ltb t (w .transitions) l) refl refl in (sym e, sym (fires (fault 8 0) e))
+  unfolding answerOf refused granted
+  fire-absent h l = let e = answers true false _ _ h (le-ltb t (w .transitions) l) refl refl in (sym e, sym (fires (refuse (fault 8 0)) e))
 
   module _ (h : loaded w ≡ true) (l : t < w .transitions) where
     enabled-is : (b : Bool) → enabledBy (getD (w .pre) t 0) (getD (w .post) t 0) (w .present) ≡ b → enabled (netIn w) (w .present) t ≡ b
     unfolding netIn
     enabled-is b p = enabled-in (netIn w) (w .present) t l ∙ p
 
-    pub fire-disabled : enabledBy (getD (w .pre) t 0) (getD (w .post) t 0) (w .present) ≡ false → (answerOf (Refused Disabled) ≡ fireAnswer w t) × (w ≡ fireWalk w t)
-    unfolding answerOf refusal granted
-    fire-disabled p =
-        let e = answers true true false _ h (lt-ltb t (w .transitions) l) (enabled-is false p) refl in (sym e, sym (fires (fault 41 0) e))
+    pub fire-disabled : (r : Refusal) → enabledBy (getD (w .pre) t 0) (getD (w .post) t 0) (w .present) ≡ false
+        → refused r ≡ disabledBy (missingBy (getD (w .pre) t 0) (w .present)) (occupiedBy (getD (w .pre) t 0) (getD (w .post) t 0) (w .present))
+        → (answerOf (Refused r) ≡ fireAnswer w t) × (w ≡ fireWalk w t)
+    unfolding answerOf granted disabled missing occupied netIn
+    fire-disabled r p q =
+        let e = answers true true false _ h (lt-ltb t (w .transitions) l) (enabled-is false p) refl in
+        (q ∙ sym e, sym (fires (disabled (netIn w) (w .present) t) e))
 
     pub fire-full : enabledBy (getD (w .pre) t 0) (getD (w .post) t 0) (w .present) ≡ true → 65535 ≤ w .count → (answerOf Full ≡ fireAnswer w t) × (w ≡ fireWalk w t)
     unfolding answerOf granted
     fire-full p k =
         let e = answers true true true false h (lt-ltb t (w .transitions) l) (enabled-is true p) (le-ltb (w .count) 65535 k) in
-        (sym e, sym (fires (fault 42 0) e))
+        (sym e, sym (fires (refuse (fault 42 0)) e))
 
     pub fire-granted : (m s : ℕ) → enabledBy (getD (w .pre) t 0) (getD (w .post) t 0) (w .present) ≡ true → w .count < 65535
         → m ≡ firedBy (getD (w .pre) t 0) (getD (w .post) t 0) (w .present)
@@ -232,4 +228,4 @@ module _ (w : Walk) (t : ℕ) where
     unfolding answerOf granted fired netIn
     fire-granted m s p k q r =
         let e = answers true true true true h (lt-ltb t (w .transitions) l) (enabled-is true p) (lt-ltb (w .count) 65535 k) in
-        (sym e, moved-with w m (w .count + 1) s r ∙ ap (λ (x : ℕ). movedTo w x (w .count + 1)) q ∙ sym (fires noFault e))
+        (sym e, moved-with w m (w .count + 1) s r ∙ ap (λ (x : ℕ). movedTo w x (w .count + 1)) q ∙ sym (fires (grant 0) e))

@@ -6,29 +6,29 @@ use mathlib.Core.List.{List}
 use lib.Dec.{eqb, ltb}
 use Rattle.net.specs.Step.{enabled, fired}
 use Rattle.net.specs.Table.{netOf}
-use Rattle.net.specs.Answer.{Fault, noFault, fault, refusal, loadFault}
+use Rattle.net.specs.Answer.{fault, Answer as Told, refuse, grant, refused, loadFault, disabled}
 use Rattle.walk.specs.declared.Walk.{Walk}
 use Rattle.walk.specs.declared.Answer.{Answer}
 use Rattle.walk.specs.declared.Answer.the-variants.{Granted, Unloaded, Refused, Full}
 use Rattle.walk.specs.State.{netIn, startedAt, movedTo, loaded}
 
--- document 01's number and record of each answer; 0 where the call is granted
-unfoldable pub answerOf : Answer → Fault
-unfolding refusal
-answerOf Granted = noFault
-answerOf Unloaded = fault 40 0
-answerOf (Refused r) = refusal r
-answerOf Full = fault 42 0
+-- document 01's number and record of each answer, 0 where the call is granted; with 41 both sets; the marking, which a walk's answer has not, is 0
+unfoldable pub answerOf : Answer → Told
+unfolding refused
+answerOf Granted = grant 0
+answerOf Unloaded = refuse (fault 40 0)
+answerOf (Refused r) = refused r
+answerOf Full = refuse (fault 42 0)
 
 -- the call is granted
-unfoldable pub granted : Fault → Bool
-granted f = eqb (f .number) 0
+unfoldable pub granted : Told → Bool
+granted a = eqb (a .found .number) 0
 
 -- ---- load
 
--- 1 (places), 2, 3 and 7
-unfoldable pub loadAnswer : ℕ → ℕ → List ℕ → Fault
-loadAnswer places m bytes = loadFault places m bytes
+-- 1 (places), 2, 3 and 7; with none of them it is `grant 0`
+unfoldable pub loadAnswer : ℕ → ℕ → List ℕ → Told
+loadAnswer places m bytes = refuse (loadFault places m bytes)
 
 -- the walk with its own copy of the net and the set for the marking, whatever was loaded before
 unfoldable pub loadWalk : Walk → ℕ → ℕ → List ℕ → Walk
@@ -36,12 +36,15 @@ loadWalk w places m bytes = cond (granted (loadAnswer places m bytes)) (startedA
 
 -- ---- fire
 
--- 40 nothing loaded; then 8; 41 transition not enabled; 42 count at 65,535
-unfoldable pub fireAnswer : Walk → ℕ → Fault
+-- 40 nothing loaded; then 8; 41 transition not enabled, with both sets; 42 count at 65,535
+unfoldable pub fireAnswer : Walk → ℕ → Told
+unfolding disabled
 fireAnswer w t =
     cond (loaded w)
-    (cond (ltb t (w .transitions)) (cond (enabled (netIn w) (w .present) t) (cond (ltb (w .count) 65535) noFault (fault 42 0)) (fault 41 0)) (fault 8 0))
-    (fault 40 0)
+    (cond (ltb t (w .transitions))
+    (cond (enabled (netIn w) (w .present) t) (cond (ltb (w .count) 65535) (grant 0) (refuse (fault 42 0))) (disabled (netIn w) (w .present) t))
+    (refuse (fault 8 0)))
+    (refuse (fault 40 0))
 
 -- the marking after t, one more firing, and the set for that marking
 unfoldable pub fireWalk : Walk → ℕ → Walk
@@ -50,8 +53,8 @@ fireWalk w t = cond (granted (fireAnswer w t)) (movedTo w (fired (netIn w) (w .p
 -- ---- reset and read
 
 -- 40 nothing loaded
-unfoldable pub loadedAnswer : Walk → Fault
-loadedAnswer w = cond (loaded w) noFault (fault 40 0)
+unfoldable pub loadedAnswer : Walk → Told
+loadedAnswer w = cond (loaded w) (grant 0) (refuse (fault 40 0))
 
 -- the start marking again, count 0, and the set for that marking
 unfoldable pub resetWalk : Walk → Walk

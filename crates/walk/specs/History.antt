@@ -11,7 +11,8 @@ use lib.Dec.{ltb}
 use Rattle.bitset.specs.Sets.{member}
 use Rattle.net.specs.declared.Net.{Net}
 use Rattle.net.specs.Table.{netOf}
-use Rattle.net.specs.Answer.{Fault}
+use Rattle.net.specs.Answer.{Answer}
+use Rattle.net.specs.Why.{Explained}
 use Rattle.net.specs.Sequence.{after}
 use Rattle.walk.specs.declared.Walk.{Walk}
 use Rattle.walk.specs.State.{netIn, empty, storing, marked, StoresNext, loaded}
@@ -23,7 +24,7 @@ pub data Call : Type 0 where
   reset : Call
 
 -- what a call answers
-unfoldable pub answered : Walk → Call → Fault
+unfoldable pub answered : Walk → Call → Answer
 answered w (load places m bytes) = loadAnswer places m bytes
 answered w (fire t) = fireAnswer w t
 answered w reset = loadedAnswer w
@@ -77,6 +78,12 @@ pub record Follows (w : Walk) (log : Log) : Type 0 where
 -- of a walk made by calls from a new one: firing a transition is granted exactly where it is in the stored set and the count has room
 unfoldable pub OffersSteps : Type 0
 OffersSteps = (cs : List Call) (t : ℕ) → granted (fireAnswer (run empty cs) t) ≡ (member (run empty cs .next) t && ltb (run empty cs .count) 65535)
+
+-- ---- why a step is refused, of a walk in any condition
+
+-- firing answers 41 with the sets of the transition at the present marking, one of which at least is not empty, and anything else with none
+unfoldable pub FireExplained : Type 0
+FireExplained = (w : Walk) (t : ℕ) → Explained (netIn w) (w .present) t (fireAnswer w t)
 
 -- ---- the stored set, of a walk in any condition
 

@@ -49,27 +49,15 @@ pub struct Reading {
     pub next: u64,
 }
 
-// An answer in document 01's numbers; the marking is 0.
+// An answer in document 01's numbers: 0 where granted, the record and, with 41, both sets; the marking is 0.
 pub fn answer_numbers(answer: Answer) -> Numbers
-    ensures { λ r. ⌜ (r .number ≡ calls.answerOf answer .number) × (r .place ≡ calls.answerOf answer .place) × (r .marking ≡ 0) ⌝ }
+    ensures { λ r. let a = calls.answerOf answer in ⌜ (r .number ≡ a .found .number) × (r .place ≡ a .found .place) × (r .marking ≡ a .marking) × (r .missing ≡ a .missing) × (r .occupied ≡ a .occupied) ⌝ }
 {
     match answer {
-        Answer::Granted => Numbers {
-            number: 0,
-            place: 0,
-            marking: 0,
-        },
-        Answer::Unloaded => Numbers {
-            number: 40,
-            place: 0,
-            marking: 0,
-        },
+        Answer::Granted => net::in_numbers(0, 0, 0, 0),
+        Answer::Unloaded => net::in_numbers(40, 0, 0, 0),
         Answer::Refused(why) => net::refusal_numbers(why),
-        Answer::Full => Numbers {
-            number: 42,
-            place: 0,
-            marking: 0,
-        },
+        Answer::Full => net::in_numbers(42, 0, 0, 0),
     }
 }
 
@@ -159,7 +147,7 @@ impl Walk {
         }
     }
 
-    // Fires a transition, by the net and the present marking whatever is stored: granted, or the first of 40, 8, 41 and 42.
+    // Fires a transition, by the net and the present marking whatever is stored: granted, or the first of 40, 8, 41, with both sets, and 42.
     pub fn fire(self, transition: u32) -> Outcome
         ensures { λ r. ⌜ (calls.answerOf (r .answer) ≡ calls.fireAnswer self transition) × (r .walk ≡ calls.fireWalk self transition) ⌝ }
     {
@@ -181,7 +169,7 @@ impl Walk {
         let post = self.post[t];
         if !net::enabled_by(pre, post, self.present) {
             return Outcome {
-                answer: Answer::Refused(Refusal::Disabled),
+                answer: Answer::Refused(net::disabled_by(pre, post, self.present)),
                 walk: self,
             };
         }

@@ -22,6 +22,8 @@ mod c {
             transition: u32,
             record: *mut u64,
             after: *mut u64,
+            missing: *mut u64,
+            occupied: *mut u64,
         ) -> u32;
         pub fn desk_categories(
             translation: *const u8,
@@ -107,10 +109,12 @@ pub fn check(ask: &[u8], net: &[u8], formulas: &[u8], tree: &[u8]) -> (u32, u64)
     (number, place)
 }
 
-/// The number, the record and the marking after.
-pub fn fire(places: u32, marking: u64, net: &[u8], transition: u32) -> (u32, u64, u64) {
+/// The number, the record, the marking after, the places missing and those occupied.
+pub fn fire(places: u32, marking: u64, net: &[u8], transition: u32) -> (u32, u64, u64, u64, u64) {
     let mut record = UNWRITTEN;
     let mut after = UNWRITTEN;
+    let mut missing = UNWRITTEN;
+    let mut occupied = UNWRITTEN;
     // SAFETY: as in `check`.
     let number = unsafe {
         c::desk_fire(
@@ -121,9 +125,11 @@ pub fn fire(places: u32, marking: u64, net: &[u8], transition: u32) -> (u32, u64
             transition,
             &mut record,
             &mut after,
+            &mut missing,
+            &mut occupied,
         )
     };
-    (number, record, after)
+    (number, record, after, missing, occupied)
 }
 
 /// The number and the record.

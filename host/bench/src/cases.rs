@@ -30,7 +30,7 @@ impl Bench {
 /// A name and what makes the case.
 type Named = (&'static str, fn() -> Bench);
 
-pub const CASES: [Named; 36] = [
+pub const CASES: [Named; 37] = [
     ("tree: R, 23 nodes", || tree_bench(families::r_holds())),
     ("tree: trail of 32767", || {
         tree_bench(families::trail_chain(32_767))
@@ -46,6 +46,9 @@ pub const CASES: [Named; 36] = [
     ("fire: net R", || fire_bench(encode::net(&NET_R), 3, 3, 1)),
     ("fire: 64 transitions", || {
         fire_bench(large_net(), 64, u64::MAX, 63)
+    }),
+    ("fire: 64, not enabled", || {
+        fire_bench(ring_net(), 64, u64::MAX >> 1, 63)
     }),
     ("categories: full files", categories_bench),
     ("label: small files", || {
@@ -145,17 +148,24 @@ fn large_net() -> Vec<u8> {
     encode::net(&(0..64).map(loop_at).collect::<Vec<_>>())
 }
 
+/// A ring of 64 places.
+fn ring_net() -> Vec<u8> {
+    let step = |t: usize| Transition {
+        pre: 1 << t,
+        post: 1 << ((t + 1) % 64),
+        action: t as u16,
+    };
+    encode::net(&(0..64).map(step).collect::<Vec<_>>())
+}
+
 fn fire_bench(net: Vec<u8>, places: u32, marking: u64, t: u32) -> Bench {
     let copy = net.clone();
+    let mix = |(number, record, after, missing, occupied): (u32, u64, u64, u64, u64)| {
+        two(number, record) ^ after ^ missing.rotate_left(8) ^ occupied.rotate_left(16)
+    };
     Bench {
-        archive: Box::new(move || {
-            let (number, record, after) = archive::fire(places, marking, black_box(&net), t);
-            two(number, record) ^ after
-        }),
-        reference: Box::new(move || {
-            let answer = net::fire(places, marking, black_box(&copy), t);
-            answer.unwrap_or_else(|refusal| two(refusal.number, refusal.record))
-        }),
+        archive: Box::new(move || mix(archive::fire(places, marking, black_box(&net), t))),
+        reference: Box::new(move || mix(net::fire(places, marking, black_box(&copy), t).numbers())),
     }
 }
 

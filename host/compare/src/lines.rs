@@ -8,10 +8,11 @@ use generate::firings::FiringCase;
 use generate::pnml::{ReadCase, WriteCase};
 use generate::written::WrittenCase;
 use reference::check::Verdict;
-use reference::{category, check, net};
+use reference::{category, check};
 
 use crate::converted;
 use crate::drawings;
+use crate::firings;
 use crate::rooms::Answer;
 use crate::written;
 
@@ -55,10 +56,10 @@ pub fn labels(case: &LabelCase) -> String {
     format!("label {translation} {house} {action} = {expected} but {found}")
 }
 
-pub fn firing(case: &FiringCase, expected: (u32, u64, u64), found: (u32, u64, u64)) -> String {
+pub fn firing(case: &FiringCase, expected: firings::Answer, found: firings::Answer) -> String {
     let (places, marking, transition) = (case.places, case.marking, case.transition);
     let net = hex(&case.net);
-    let (expected, found) = (three(expected), three(found));
+    let (expected, found) = (five(expected), five(found));
     format!("firing {places} {marking} {net} {transition} = {expected} but {found}")
 }
 
@@ -84,8 +85,13 @@ pub fn converted(case: &ConvertCase, expected: &Answer, found: &Answer) -> Strin
     format!("converted {file} {room} = {expected} but {found}")
 }
 
-fn three((a, b, c): (u32, u64, u64)) -> String {
-    format!("{a} {b} {c}")
+/// A firing's answer, and the same without the sets.
+fn five((number, record, after, missing, occupied): firings::Answer) -> String {
+    format!("{number} {record} {after} {missing} {occupied}")
+}
+
+fn three((number, record, after, _, _): firings::Answer) -> String {
+    format!("{number} {record} {after}")
 }
 
 /// The program's line for the numbers of a C answer.
@@ -120,7 +126,8 @@ fn archive_labels(translation: &[u8], house: &[u8], action: u16) -> String {
     format!("{number} {record} {file} {offset} {length}")
 }
 
-/// The archive's and the reference's answer to a line's input.
+/// The archive's and the reference's answer to a line's input. A line of the kind "fired"
+/// is a firing's, without the sets.
 fn answers(kind: &str, input: &str) -> (String, String) {
     let fields: Vec<&str> = input.split(' ').collect();
     match kind {
@@ -180,16 +187,16 @@ fn answers(kind: &str, input: &str) -> (String, String) {
             (found.to_string(), expected.to_string())
         }
         _ => {
-            let places = fields[0].parse().expect("places");
-            let marking = fields[1].parse().expect("a marking");
-            let transition = fields[3].parse().expect("a transition");
-            let net = bytes(fields[2]);
-            let found = archive::fire(places, marking, &net, transition);
-            let expected = match net::fire(places, marking, &net, transition) {
-                Ok(after) => (0, 0, after),
-                Err(refusal) => (refusal.number, refusal.record, 0),
+            let case = FiringCase {
+                places: fields[0].parse().expect("places"),
+                marking: fields[1].parse().expect("a marking"),
+                net: bytes(fields[2]),
+                transition: fields[3].parse().expect("a transition"),
             };
-            (three(found), three(expected))
+            let text = if kind == "fired" { three } else { five };
+            let found = firings::archive_firing(&case);
+            let expected = firings::reference_firing(&case);
+            (text(found), text(expected))
         }
     }
 }
@@ -211,7 +218,7 @@ pub fn vectors(folder: &str) -> ExitCode {
     for (kind, name) in [
         ("tree", "trees"),
         ("label", "labels"),
-        ("firing", "firings"),
+        ("fired", "firings"),
         ("pnml_write", "pnml_write_1"),
         ("pnml_read", "pnml_read_1"),
         ("tree", "trees_4"),
@@ -220,6 +227,7 @@ pub fn vectors(folder: &str) -> ExitCode {
         ("written", "written"),
         ("converted", "converted"),
         ("label", "labels_6"),
+        ("firing", "firings_7"),
     ] {
         let path = format!("{folder}/{name}.txt");
         let text = std::fs::read_to_string(&path).expect("the vectors are readable");

@@ -7,6 +7,7 @@
 
 mod converted;
 mod drawings;
+mod firings;
 mod lines;
 mod programs;
 mod rooms;
@@ -173,16 +174,17 @@ fn compare_labels(tally: &mut Tally, case: &LabelCase) {
 }
 
 fn compare_firing(tally: &mut Tally, case: &FiringCase) {
-    let answer = net::fire(case.places, case.marking, &case.net, case.transition);
-    let expected = match answer {
-        Ok(after) => (0, 0, after),
-        Err(refusal) => (refusal.number, refusal.record, 0),
-    };
-    let found = archive::fire(case.places, case.marking, &case.net, case.transition);
+    let expected = firings::reference_firing(case);
+    let found = firings::archive_firing(case);
     tally.firing(has_optional(&case.net), expected.0);
+    tally.reasons(firings::reasons(case, expected));
     tally.answer(expected.0);
+    let line = || lines::firing(case, expected, found);
     if found != expected {
-        tally.difference(case.net.len(), || lines::firing(case, expected, found));
+        tally.difference(case.net.len(), line);
+    }
+    if !firings::sets_fit(found) {
+        tally.unfit(case.net.len(), line);
     }
 }
 

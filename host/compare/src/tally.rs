@@ -3,6 +3,8 @@
 use generate::cases::{KINDS, Kind};
 use reference::rules::RULES;
 
+use crate::firings::REASONS;
+
 /// The answers that must occur.
 const ANSWERS: [u32; 19] = [
     0, 1, 2, 3, 4, 5, 6, 7, 8, 9, 10, 20, 21, 22, 23, 24, 25, 26, 41,
@@ -125,6 +127,8 @@ pub struct Tally {
     /// Pairs that are refused for a record of kind 1 alone.
     pub retired: u64,
     firings: Marked,
+    /// How many answers 41 show each of the reasons.
+    reasons: [u64; REASONS.len()],
     rules: Counts,
     /// The rules where an optional transition is enabled.
     optional_rules: Counts,
@@ -149,6 +153,7 @@ pub struct Tally {
     differences: Findings,
     contradictions: Findings,
     unserved: Findings,
+    unfit: Findings,
 }
 
 impl Tally {
@@ -159,6 +164,11 @@ impl Tally {
 
     pub fn firing(&mut self, optional: bool, answer: u32) {
         self.firings.add(optional, answer);
+    }
+
+    pub fn reasons(&mut self, shown: [bool; REASONS.len()]) {
+        let counts = self.reasons.iter_mut().zip(shown);
+        counts.for_each(|(count, shown)| *count += u64::from(shown));
     }
 
     pub fn answer(&mut self, number: u32) {
@@ -218,6 +228,11 @@ impl Tally {
         self.unserved.add(size, line);
     }
 
+    /// A firing of the archive with sets that cannot be.
+    pub fn unfit(&mut self, size: usize, line: impl Fn() -> String) {
+        self.unfit.add(size, line);
+    }
+
     pub fn print(&self) {
         println!("cases by kind:");
         for (place, (_, name)) in KINDS.iter().enumerate() {
@@ -228,6 +243,9 @@ impl Tally {
             self.label_pairs, self.labels, self.retired
         );
         self.firings.print("single firings", "fired");
+        let reasons = REASONS.iter().zip(self.reasons);
+        let reasons: Vec<String> = reasons.map(|(name, n)| format!("{name} {n}")).collect();
+        println!("  not enabled: {}", reasons.join(", "));
         println!("rules in accepted trees:");
         println!("  {}", self.rules.text(&RULES.map(u32::from)));
         println!(
@@ -272,12 +290,14 @@ impl Tally {
         }
         self.contradictions.print("accepted against the meaning");
         self.unserved.print("against the file before");
+        self.unfit.print("sets that cannot be");
         self.differences.print("difference");
         println!(
             "accepted against the meaning: {}",
             self.contradictions.count
         );
         println!("against the file before: {}", self.unserved.count);
+        println!("sets that cannot be: {}", self.unfit.count);
         println!("differences: {}", self.differences.count);
     }
 
@@ -307,6 +327,9 @@ impl Tally {
         missing.extend(self.reads.missing("reader's answer", &READS));
         missing.extend(self.written.missing("written tree's answer", &WRITTEN));
         missing.extend(self.converted.missing("converter's answer", &CONVERTED));
+        for (name, _) in REASONS.iter().zip(self.reasons).filter(|r| r.1 == 0) {
+            missing.push(format!("answer 41, {name}"));
+        }
         if self.retired == 0 {
             missing.push("answer 10 for kind 1 alone".to_owned());
         }
@@ -317,6 +340,7 @@ impl Tally {
         self.differences.count == 0
             && self.contradictions.count == 0
             && self.unserved.count == 0
+            && self.unfit.count == 0
             && self.stuck == 0
             && self.refused_valid == 0
             && self.missing().is_empty()

@@ -1,10 +1,11 @@
 //! Single firings.
 
+use reference::bytes::{records, u64_at};
 use reference::net::{TRANSITION, below};
 
 use crate::mutate::change_mark;
 use crate::prng::Prng;
-use crate::settings::setting;
+use crate::settings::{Setting, setting};
 
 pub struct FiringCase {
     pub places: u32,
@@ -13,8 +14,35 @@ pub struct FiringCase {
     pub transition: u32,
 }
 
+impl FiringCase {
+    /// Pre and post of the transition, where the net has it.
+    pub fn sets(&self) -> (u64, u64) {
+        let records = records::<TRANSITION>(&self.net, 1..=64).expect("a net");
+        let record = &records[self.transition as usize];
+        (u64_at(record, 0), u64_at(record, 8))
+    }
+}
+
 pub fn firing_case(rng: &mut Prng) -> FiringCase {
-    let setting = setting(rng);
+    let mut setting = setting(rng);
+    if rng.percent(20) {
+        from_the_top(&mut setting);
+    }
+    firing_in(rng, &setting)
+}
+
+/// Numbers the places from 63 down.
+fn from_the_top(setting: &mut Setting) {
+    setting.places = 64;
+    setting.marking = setting.marking.reverse_bits();
+    for transition in &mut setting.transitions {
+        transition.pre = transition.pre.reverse_bits();
+        transition.post = transition.post.reverse_bits();
+    }
+}
+
+/// A firing in a net, or in a changed one.
+pub fn firing_in(rng: &mut Prng, setting: &Setting) -> FiringCase {
     let count = setting.transitions.len();
     let mut case = FiringCase {
         places: setting.places,

@@ -4,10 +4,10 @@ use reference::net::{Net, TRANSITION, below};
 use reference::pnml_definition::{Arc, Drawing, HEAD, OPTIONAL, TAIL};
 
 use crate::encode::{self, Transition};
-use crate::firings::firing_case;
+use crate::firings::firing_in;
 use crate::prng::Prng;
 use crate::rooms::room;
-use crate::settings::optional;
+use crate::settings::{optional, setting};
 
 /// A net with its marking, and the length of the room.
 #[derive(Clone, Debug, PartialEq, Eq)]
@@ -38,7 +38,8 @@ pub fn write_case(rng: &mut Prng) -> WriteCase {
 }
 
 fn small(rng: &mut Prng) -> WriteCase {
-    let firing = firing_case(rng);
+    let setting = setting(rng);
+    let firing = firing_in(rng, &setting);
     WriteCase {
         places: firing.places,
         marking: firing.marking,

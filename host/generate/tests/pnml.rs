@@ -4,7 +4,7 @@ use std::collections::BTreeMap;
 
 use generate::pnml::{ReadCase, WriteCase, read_case, write_case};
 use generate::prng::Prng;
-use reference::net::Net;
+use reference::net::{Firing, Net};
 use reference::pnml_definition::{self as definition, Drawing};
 use reference::{Refusal, net, pnml};
 
@@ -20,9 +20,9 @@ fn assert_occurred(answers: &Answers, numbers: &[u32]) {
 /// What must be written.
 fn expected(case: &WriteCase) -> Result<Vec<u8>, Refusal> {
     // A transition that no net has: the firing refuses it after all else.
-    let load = net::fire(case.places, case.marking, &case.net, u32::MAX).unwrap_err();
-    if load.number != 8 {
-        return Err(load);
+    match net::fire(case.places, case.marking, &case.net, u32::MAX) {
+        Firing::Refused(load) if load.number != 8 => return Err(load),
+        answer => assert_eq!(answer.numbers().0, 8),
     }
     let net = Net::decode(case.places, &case.net)?;
     let text = Drawing::of(&net, case.marking).text().into_bytes();

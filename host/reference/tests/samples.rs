@@ -1,12 +1,13 @@
-//! Document 01's samples of nets, firings and sizes, the meaning on net R, and
-//! optional transitions.
+//! Document 01's samples of nets, firings and sizes, the meaning on net R,
+//! optional transitions, and why a step is not enabled.
 
 mod tables;
 
+use reference::Refusal;
 use reference::check::{Verdict, check};
 use reference::formula::{ALL, Formula, STEP};
 use reference::meaning::{Graph, evaluate};
-use reference::net::{Net, fire};
+use reference::net::{Firing, Net, fire};
 
 use tables::{NET_R, ask, table};
 
@@ -16,17 +17,56 @@ fn marked(mut table: Vec<u8>, optional: &[usize]) -> Vec<u8> {
     table
 }
 
+fn fired(after: u64) -> Firing {
+    Firing::Fired { after }
+}
+
+fn not_enabled(missing: u64, occupied: u64) -> Firing {
+    Firing::NotEnabled { missing, occupied }
+}
+
+fn refused(number: u32, record: u64) -> Firing {
+    Firing::Refused(Refusal { number, record })
+}
+
 #[test]
 fn firings() {
-    let number = |answer: Result<u64, reference::Refusal>| answer.unwrap_err().number;
     let step = table(&[(1, 2, 0)]);
-    assert_eq!(fire(2, 1, &step, 0), Ok(2));
-    assert_eq!(number(fire(2, 3, &step, 0)), 41);
-    assert_eq!(fire(1, 1, &table(&[(1, 1, 0)]), 0), Ok(1));
+    assert_eq!(fire(2, 1, &step, 0), fired(2));
+    assert_eq!(fire(2, 3, &step, 0), not_enabled(0, 2));
+    assert_eq!(fire(1, 1, &table(&[(1, 1, 0)]), 0), fired(1));
     let r = table(&NET_R);
-    assert_eq!(number(fire(3, 3, &r, 3)), 8);
-    assert_eq!(number(fire(3, 3, &r, 2)), 41);
-    assert_eq!(fire(3, 3, &r, 1), Ok(5));
+    assert_eq!(fire(3, 3, &r, 3), refused(8, 0));
+    assert_eq!(fire(3, 3, &r, 2), not_enabled(4, 0));
+    assert_eq!(fire(3, 3, &r, 1), fired(5));
+}
+
+#[test]
+fn reasons() {
+    let answer = |(pre, post): (u64, u64), marking: u64| {
+        let net = table(&[(pre, post, 0)]);
+        fire(64, marking, &net, 0)
+    };
+    assert_eq!(answer((1, 2), 0), not_enabled(1, 0));
+    assert_eq!(answer((1, 2), 2), not_enabled(1, 2));
+    // A place in pre and post is missing where it is empty, and never occupied.
+    assert_eq!(answer((3, 3), 0), not_enabled(3, 0));
+    assert_eq!(answer((3, 3), 1), not_enabled(2, 0));
+    assert_eq!(answer((3, 3), 3), fired(3));
+    assert_eq!(answer((1, 3), 3), not_enabled(0, 2));
+    assert_eq!(answer((3, 5), 5), not_enabled(2, 4));
+    assert_eq!(answer((3, 5), 13), not_enabled(2, 4));
+    // All 64 places.
+    let (top, all) = (1 << 63, u64::MAX);
+    let (high, low) = (all << 32, all >> 32);
+    assert_eq!(answer((top, 1), 1), not_enabled(top, 1));
+    assert_eq!(answer((1, top), top), not_enabled(1, top));
+    assert_eq!(answer((all, 0), 0), not_enabled(all, 0));
+    assert_eq!(answer((0, all), all), not_enabled(0, all));
+    assert_eq!(answer((high, low), low), not_enabled(high, low));
+    assert_eq!(not_enabled(6, 9).numbers(), (41, 0, 0, 6, 9));
+    assert_eq!(fired(6).numbers(), (0, 0, 6, 0, 0));
+    assert_eq!(refused(3, 6).numbers(), (3, 6, 0, 0, 0));
 }
 
 #[test]
@@ -67,7 +107,8 @@ fn marks() {
     assert_eq!((some.next(7), some.pressed_next(7)), (0b101, 0));
     assert_eq!((some.next(3), some.pressed_next(3)), (0b011, 0b010));
     assert_eq!(some.conflict, all.conflict);
-    assert_eq!(fire(3, 3, &optional, 0), Ok(3));
+    assert_eq!(fire(3, 3, &optional, 0), fired(3));
+    assert_eq!(fire(3, 3, &optional, 2), not_enabled(4, 0));
     for (byte, values) in [
         (18, &[2, 3, 128, 255][..]),
         (19, &[1]),
@@ -79,7 +120,7 @@ fn marks() {
             faulty[24 + byte] = value;
             let refusal = Net::decode(3, &faulty).unwrap_err();
             assert_eq!((refusal.number, refusal.record), (3, 1));
-            assert_eq!(fire(3, 3, &faulty, 0), Err(refusal));
+            assert_eq!(fire(3, 3, &faulty, 0), Firing::Refused(refusal));
         }
     }
 }

@@ -86,16 +86,23 @@ fn labels() {
     agree_on_labels("labels_6.txt", 160);
 }
 
+/// Number, record, marking after, missing and occupied.
+fn firing(fields: &[String]) -> (u32, u64, u64, u64, u64) {
+    let places = fields[0].parse().expect("places");
+    let marking = fields[1].parse().expect("a marking");
+    let transition = fields[3].parse().expect("a transition");
+    net::fire(places, marking, &bytes(&fields[2]), transition).numbers()
+}
+
 #[test]
 fn firings() {
     agree("firings.txt", 800, |fields| {
-        let places = fields[0].parse().expect("places");
-        let marking = fields[1].parse().expect("a marking");
-        let transition = fields[3].parse().expect("a transition");
-        match net::fire(places, marking, &bytes(&fields[2]), transition) {
-            Ok(after) => format!("0 0 {after}"),
-            Err(refusal) => format!("{} {} 0", refusal.number, refusal.record),
-        }
+        let (number, record, after, _, _) = firing(fields);
+        format!("{number} {record} {after}")
+    });
+    agree("firings_7.txt", 160, |fields| {
+        let (number, record, after, missing, occupied) = firing(fields);
+        format!("{number} {record} {after} {missing} {occupied}")
     });
 }
 

@@ -53,15 +53,16 @@ pub unsafe extern "C" fn desk_fire(
     transition: u32,
     record: *mut u64,
     after: *mut u64,
+    missing: *mut u64,
+    occupied: *mut u64,
 ) -> u32 {
     let answer = net::fire(places, marking, unsafe { bytes(net, net_len) }, transition);
-    let (number, at, marking) = match answer {
-        Ok(marking) => (0, 0, marking),
-        Err(refusal) => (refusal.number, refusal.record, 0),
-    };
+    let (number, at, marking, lacking, taken) = answer.numbers();
     unsafe {
         *record = at;
         *after = marking;
+        *missing = lacking;
+        *occupied = taken;
     }
     number
 }

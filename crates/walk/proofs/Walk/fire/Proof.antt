@@ -33,11 +33,14 @@ element-copy-out-post c = omega (arith, loaded-most _ _ _ _ _ _ (c .before .befo
 enabled-by-requires : tie.Need-enabled-by-requires
 enabled-by-requires c κs = search needs
 
+disabled-by-requires : tie.Need-disabled-by-requires
+disabled-by-requires c κs = search needs
+
 returns-3 : tie.Need-returns-3
 returns-3 c =
-    let a = c .before .before .before .before .before in
-    fire-disabled _ _ (loaded-by _ (a .before .before .net-good .ensures) (a .before .state-good .ensures) (a .if1 .left)) (c .before .before .before .before .if2 .left)
-    (denied (c .before .enabled-by .ensures) (c .if3 .taken))
+    let a = c .before .before .before .before .before .before in
+    fire-disabled _ _ (loaded-by _ (a .before .before .net-good .ensures) (a .before .state-good .ensures) (a .if1 .left)) (c .before .before .before .before .before .if2 .left)
+    _ (denied (c .before .before .enabled-by .ensures) (c .before .if3 .taken)) (c .disabled-by .ensures)
 
 returns-4 : tie.Need-returns-4
 returns-4 c =
@@ -81,6 +84,7 @@ fire-spec =
     mul-post
     element-copy-out-post
     enabled-by-requires
+    disabled-by-requires
     returns-3
     returns-4
     fired-by-requires
