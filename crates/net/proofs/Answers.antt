@@ -101,21 +101,27 @@ module _ (places m : ℕ) (bytes : List ℕ) where
       let s = scan-passed 2 3 24 1 64 (recordBad places bytes) (length bytes) (λ q. omega arith) (λ q. omega arith) (r .2) in
       (r .0, s .0, s .1, r .1)
 
-  -- loading does not meet 41
-  pub load-other : loadFault places m bytes .number ≡ 41 → ⊥
+  -- all that loading can meet
+  pub load-cases : (P : Fault → Type 0) → P noFault → P (fault 1 0) → P (fault 2 0) → ((k : ℕ) → P (fault 3 k)) → P (fault 7 0)
+      → P (loadFault places m bytes)
   unfolding loadFault tableFault scanFault
-  load-other =
+  load-cases P none one two three seven =
       let n = length bytes / 24 in
       let f = first (recordBad places bytes) n in
       by (placesGood places) (sized 24 1 64 (length bytes)) (ltb f n) (within places m) f
     where
-      by : (p s b w : Bool) (k : ℕ)
-          → cond p (orElse (cond s (cond b (fault 3 k) noFault) (fault 2 0)) (cond w noFault (fault 7 0))) (fault 1 0) .number ≡ 41 → ⊥
-      by true true true w k e = omega (arith, e)
-      by true true false true k e = omega (arith, e)
-      by true true false false k e = omega (arith, e)
-      by true false b w k e = omega (arith, e)
-      by false s b w k e = omega (arith, e)
+      by : (p s b w : Bool) (k : ℕ) → P (cond p (orElse (cond s (cond b (fault 3 k) noFault) (fault 2 0)) (cond w noFault (fault 7 0))) (fault 1 0))
+      by true true true w k = three k
+      by true true false true k = none
+      by true true false false k = seven
+      by true false b w k = two
+      by false s b w k = one
+
+  -- it does not meet 41
+  pub load-other : loadFault places m bytes .number ≡ 41 → ⊥
+  load-other =
+      load-cases (λ (f : Fault). f .number ≡ 41 → ⊥) (λ e. omega (arith, e)) (λ e. omega (arith, e)) (λ e. omega (arith, e)) (λ k e. omega (arith, e))
+      (λ e. omega (arith, e))
 
   -- so what it meets comes without sets
   pub load-plain : (r : Refusal) → checked (Bad r) ≡ loadFault places m bytes → refused r ≡ refuse (loadFault places m bytes)

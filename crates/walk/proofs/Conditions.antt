@@ -12,10 +12,8 @@ use Rattle.tables.proofs.Tests.{and-left, and-right, and-intro, if-true}
 use Rattle.tables.specs.Sizes.{sized}
 use Rattle.net.specs.Step.{preOf, postOf, enabled, fired}
 use Rattle.net.specs.Table.{preAt, postAt, markAt, spareAt, transitions, netOf, placesGood, tableSized, recordBad}
-use Rattle.tables.specs.Lists.{first}
-use Rattle.tables.specs.Faults.{scanFault}
-use Rattle.net.specs.Answer.{noFault, fault, refuse, grant, orElse, tableFault, loadFault, disabled}
-use Rattle.net.proofs.Answers.{load-passed, decoded-pre, decoded-post}
+use Rattle.net.specs.Answer.{Fault, noFault, fault, refuse, grant, loadFault, disabled}
+use Rattle.net.proofs.Answers.{load-passed, load-cases, decoded-pre, decoded-post}
 use Rattle.net.proofs.Independence.{moved-within}
 use Rattle.walk.specs.declared.Walk.{Walk}
 use Rattle.walk.specs.State.{netIn, startedAt, movedTo, empty, setsWithin, transitionsGood, netGood, loaded}
@@ -33,18 +31,10 @@ new-unloaded = refl
 
 -- a load is granted where it meets none of 1, 2, 3 and 7
 load-none : (places m : ℕ) (bytes : List ℕ) → granted (loadAnswer places m bytes) ≡ true → noFault ≡ loadFault places m bytes
-unfolding loadAnswer loadFault tableFault scanFault granted
+unfolding loadAnswer granted
 load-none places m bytes =
-    let n = length bytes / 24 in
-    by (placesGood places) (sized 24 1 64 (length bytes)) (ltb (first (recordBad places bytes) n) n) (within places m) (first (recordBad places bytes) n)
-  where
-    by : (p s f w : Bool) (k : ℕ) → granted (refuse (cond p (orElse (cond s (cond f (fault 3 k) noFault) (fault 2 0)) (cond w noFault (fault 7 0))) (fault 1 0))) ≡ true
-        → noFault ≡ cond p (orElse (cond s (cond f (fault 3 k) noFault) (fault 2 0)) (cond w noFault (fault 7 0))) (fault 1 0)
-    by true true false true k e = refl
-    by true true false false k e = absurd (false≢true e)
-    by true true true w k e = absurd (false≢true e)
-    by true false f w k e = absurd (false≢true e)
-    by false s f w k e = absurd (false≢true e)
+    load-cases places m bytes (λ (f : Fault). granted (refuse f) ≡ true → noFault ≡ f) (λ e. refl) (λ e. absurd (false≢true e)) (λ e. absurd (false≢true e))
+    (λ k e. absurd (false≢true e)) (λ e. absurd (false≢true e))
 
 -- a firing is granted where the walk is loaded, the transition is one of the net's and enabled, and the count is below 65,535
 pub grants-where : (w : Walk) (t : ℕ) → granted (fireAnswer w t) ≡ (loaded w && (enabled (netIn w) (w .present) t && ltb (w .count) 65535))
