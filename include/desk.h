@@ -1,6 +1,6 @@
 /* The desk's C interface: the tree check, the single firing and the category
- * labels of document 01; nets as PNML text, the writer of trees and the converter
- * of category files of document 02. Archive: libdesk.a.
+ * labels of document 01; nets as PNML text, the writer of trees, the converter of
+ * category files and two nets side by side of document 02. Archive: libdesk.a.
  *
  * Tables and texts are lent as a pointer and a length in bytes. They are only
  * read, and nothing of them is kept after the call. Room for what a call writes
@@ -55,6 +55,7 @@ enum {
     DESK_SHORT_ROOM = 12,        /* the room is too short for what is to be written */
     DESK_BAD_PNML = 13,          /* the text is not of the shape that is read */
     DESK_HAS_UNTIL = 14,         /* the asked formula contains operator 4 or 5 */
+    DESK_TOO_LARGE = 15,         /* the places or the transitions of two nets add up to more than 64 */
     DESK_FAULT_LINKS = 20,       /* parent, first child or number of children */
     DESK_FAULT_RANGE = 21,       /* a field out of range, or not zero where required */
     DESK_FAULT_ROOT = 22,        /* the root is not the ask in phase 0 */
@@ -163,6 +164,26 @@ uint32_t desk_write_tree(const uint8_t *ask, size_t ask_len,
                          uint8_t *room, size_t room_len,
                          uint64_t *record, uint32_t *side, uint64_t *nodes);
 
+/* Two nets with their markings side by side, as one net. The records of the
+ * first stand at the start of the room as they are, those of the second follow
+ * with both sets moved up by first_places; its actions and marks are kept. So
+ * place k of the second is place first_places + k of the joint net, and its
+ * transitions follow those of the first. The answer is DESK_GRANTED with
+ * *record 0, the joint places and marking, and the bytes of the joint records in
+ * *length; desk_fire and the other calls find no fault in that net. It is 1
+ * (places), 2, 3 or 7 for the first net, then the same for the second, with the
+ * record in its own table, 0 except for 3; then 15 where places or transitions
+ * add up to more than 64; then 12, exactly where the room is shorter than both
+ * tables together. With 15 and 12 *record is 0. The answer does not say which
+ * net is refused. Where the call refuses, *places, *marking and *length are 0.
+ * Room of 64 records is enough. */
+uint32_t desk_join(uint32_t first_places, uint64_t first_marking,
+                   const uint8_t *first, size_t first_len,
+                   uint32_t second_places, uint64_t second_marking,
+                   const uint8_t *second, size_t second_len,
+                   uint8_t *room, size_t room_len,
+                   uint64_t *record, uint32_t *places, uint64_t *marking, uint64_t *length);
+
 /* A pointer that is not null, for a table or text that may be NULL with length 0. */
 static inline const uint8_t *desk_table(const uint8_t *table)
 {
@@ -255,6 +276,20 @@ static inline uint32_t desk_write_tree_bytes(const uint8_t *ask, size_t ask_len,
     return desk_write_tree(desk_table(ask), ask_len, desk_table(net), net_len,
                            desk_table(formulas), formulas_len, desk_room(room), room_len,
                            record, side, nodes);
+}
+
+/* desk_join, where a net or room of length 0 may be NULL. */
+static inline uint32_t desk_join_bytes(uint32_t first_places, uint64_t first_marking,
+                                       const uint8_t *first, size_t first_len,
+                                       uint32_t second_places, uint64_t second_marking,
+                                       const uint8_t *second, size_t second_len,
+                                       uint8_t *room, size_t room_len,
+                                       uint64_t *record, uint32_t *places,
+                                       uint64_t *marking, uint64_t *length)
+{
+    return desk_join(first_places, first_marking, desk_table(first), first_len,
+                     second_places, second_marking, desk_table(second), second_len,
+                     desk_room(room), room_len, record, places, marking, length);
 }
 
 #ifdef __cplusplus

@@ -1363,6 +1363,256 @@ static void conversions_at_the_limit(void)
     }
 }
 
+/* Two nets side by side */
+
+typedef uint32_t join_call(uint32_t, uint64_t, const uint8_t *, size_t, uint32_t, uint64_t,
+                           const uint8_t *, size_t, uint8_t *, size_t, uint64_t *, uint32_t *,
+                           uint64_t *, uint64_t *);
+
+/* A net with its marking. */
+typedef struct {
+    uint32_t places;
+    uint64_t marking;
+    table net;
+} half;
+
+static half half_of(uint32_t places, uint64_t marking, table net)
+{
+    half h = {places, marking, net};
+    return h;
+}
+
+/* The function itself is called too where no pointer is NULL. */
+static void join(const char *what, half first, half second, size_t room_len, uint32_t number,
+                 uint64_t record, half both)
+{
+    for (size_t behind = 0; behind <= BEHIND; behind += BEHIND) {
+        uint8_t *room = filled(room_len + behind);
+        uint64_t found_record = UNWRITTEN;
+        uint32_t found_places = (uint32_t)UNWRITTEN;
+        uint64_t found_marking = UNWRITTEN;
+        uint64_t found_length = UNWRITTEN;
+        int null = first.net.bytes == NULL || second.net.bytes == NULL || room == NULL;
+        join_call *call = null || behind == 0 ? desk_join_bytes : desk_join;
+        expect(what, "number", number,
+               call(first.places, first.marking, first.net.bytes, first.net.len, second.places,
+                    second.marking, second.net.bytes, second.net.len, room, room_len,
+                    &found_record, &found_places, &found_marking, &found_length));
+        expect(what, "record", record, found_record);
+        expect(what, "places", both.places, found_places);
+        expect(what, "marking", both.marking, found_marking);
+        expect(what, "length", both.net.len, found_length);
+        stands(what, room, room_len + behind, both.net);
+        free(room);
+    }
+}
+
+/* A refused pair. */
+static void unjoined(const char *what, half first, half second, size_t room_len, uint32_t number,
+                     uint64_t record)
+{
+    join(what, first, second, room_len, number, record, half_of(0, 0, NOTHING));
+}
+
+/* Fires a transition in its half, and in the joint net, where the half's places begin at
+ * `shift` and the other half is marked with `beside`. */
+static void fires_as_before(const char *what, half own, uint32_t transition, half both,
+                            uint32_t joint_transition, uint32_t shift, uint64_t beside)
+{
+    uint64_t record = UNWRITTEN, after = UNWRITTEN, missing = UNWRITTEN, occupied = UNWRITTEN;
+    uint32_t number = desk_fire_bytes(own.places, own.marking, own.net.bytes, own.net.len,
+                                      transition, &record, &after, &missing, &occupied);
+    after = number == DESK_GRANTED ? after << shift | beside : 0;
+    fire_with(what, both.places, both.marking, both.net, joint_transition, number, record, after,
+              missing << shift, occupied << shift);
+}
+
+/* Every transition of the joint net does what it does in its half. */
+static void halves_stay(const char *what, half first, half second, half both)
+{
+    uint32_t low = (uint32_t)(first.net.len / DESK_TRANSITION_BYTES);
+    uint32_t high = (uint32_t)(second.net.len / DESK_TRANSITION_BYTES);
+    for (uint32_t t = 0; t < low; t++) {
+        fires_as_before(what, first, t, both, t, 0, second.marking << first.places);
+    }
+    for (uint32_t t = 0; t < high; t++) {
+        fires_as_before(what, second, t, both, low + t, first.places, first.marking);
+    }
+    fire(what, both.places, both.marking, both.net, low + high, DESK_NO_TRANSITION, 0, 0);
+}
+
+/* Two good nets in rooms of several lengths. The check finds no fault in what they become. */
+static void joins(const char *what, half first, half second, half both)
+{
+    static const size_t more[4] = {0, 1, DESK_TRANSITION_BYTES, 1000};
+    size_t len = first.net.len + second.net.len;
+    for (size_t i = 0; i < 4; i++) {
+        join(what, first, second, len + more[i], DESK_GRANTED, 0, both);
+    }
+    const size_t less[4] = {0, first.net.len, len - DESK_TRANSITION_BYTES, len - 1};
+    for (size_t i = 0; i < 4; i++) {
+        unjoined(what, first, second, less[i], DESK_SHORT_ROOM, 0);
+    }
+    halves_stay(what, first, second, both);
+    const node leaf = {both.marking, 0, 0, 0, 0, 0, 0, 15, DESK_HOLDS, 0, 0, 0};
+    check(what, ask_r(both.marking, 0, (uint8_t)both.places, DESK_HOLDS), both.net, formulas_r(),
+          tree_of(&leaf, 1), DESK_GRANTED, 1);
+}
+
+/* A ring of so many places and transitions; the last transitions go round once more. A
+ * token in the last place. */
+static half ring(uint32_t places, size_t transitions)
+{
+    table t = empty_table(transitions * DESK_TRANSITION_BYTES);
+    for (size_t i = 0; i < transitions; i++) {
+        put_transition(t.bytes + i * DESK_TRANSITION_BYTES, UINT64_C(1) << i % places,
+                       UINT64_C(1) << (i + 1) % places, 1000 * i);
+    }
+    return half_of(places, UINT64_C(1) << (places - 1), t);
+}
+
+/* The two rings as one net. */
+static half two_rings(uint32_t low, size_t low_count, uint32_t high, size_t high_count)
+{
+    table t = empty_table((low_count + high_count) * DESK_TRANSITION_BYTES);
+    memcpy(t.bytes, ring(low, low_count).net.bytes, low_count * DESK_TRANSITION_BYTES);
+    for (size_t i = 0; i < high_count; i++) {
+        put_transition(t.bytes + (low_count + i) * DESK_TRANSITION_BYTES,
+                       UINT64_C(1) << (low + i % high), UINT64_C(1) << (low + (i + 1) % high),
+                       1000 * i);
+    }
+    return half_of(low + high, UINT64_C(1) << (low - 1) | UINT64_C(1) << (low + high - 1), t);
+}
+
+static void nets_joined(void)
+{
+    table r = net_r(3), r_optional = net_r_optional(1), both = empty_table(6 * 24);
+    static const uint64_t rows[6][3] = {{1, 1, 1}, {2, 4, 2}, {4, 0, 3},
+                                        {8, 8, 1}, {16, 32, 2}, {32, 0, 3}};
+    for (size_t i = 0; i < 6; i++) {
+        put_transition(both.bytes + i * 24, rows[i][0], rows[i][1], rows[i][2]);
+    }
+    joins("R beside itself", half_of(3, 3, r), half_of(3, 3, r), half_of(6, 27, both));
+    for (uint64_t low = 0; low < 8; low++) {
+        for (uint64_t high = 0; high < 8; high++) {
+            half first = half_of(3, low, r), second = half_of(3, high, net_r(3));
+            half joint = half_of(6, low | high << 3, both);
+            join("R beside R", first, second, both.len, DESK_GRANTED, 0, joint);
+            halves_stay("R beside R", first, second, joint);
+        }
+    }
+    for (size_t len = 0; len <= both.len; len++) {
+        int fits = len == both.len;
+        join("R beside R, room", half_of(3, 3, r), half_of(3, 3, r), len,
+             fits ? DESK_GRANTED : DESK_SHORT_ROOM, 0,
+             fits ? half_of(6, 27, both) : half_of(0, 0, NOTHING));
+    }
+    table first = changed(both, 24 + MARK, 1), second = changed(both, 96 + MARK, 1);
+    joins("optional in the first", half_of(3, 3, r_optional), half_of(3, 3, r),
+          half_of(6, 27, first));
+    joins("optional in the second", half_of(3, 3, r), half_of(3, 3, r_optional),
+          half_of(6, 27, second));
+    joins("optional in both", half_of(3, 3, r_optional), half_of(3, 3, r_optional),
+          half_of(6, 27, changed(first, 96 + MARK, 1)));
+
+    /* A transition that touches no place, and places that no transition touches. */
+    table nothing = empty_table(DESK_TRANSITION_BYTES), mixed = resized(r, 4 * 24);
+    put_transition(nothing.bytes, 0, 0, 65535);
+    put_transition(mixed.bytes + 72, 0, 0, 65535);
+    joins("no place touched", half_of(3, 3, r), half_of(1, 1, nothing), half_of(4, 11, mixed));
+    joins("61 places more", half_of(3, 7, r), half_of(61, 0, nothing), half_of(64, 7, mixed));
+}
+
+/* Sums of exactly 64 places and transitions, and of one more. */
+static void joins_at_the_limit(void)
+{
+    static const uint32_t places[5][2] = {{32, 32}, {1, 63}, {63, 1}, {5, 59}, {40, 24}};
+    for (size_t i = 0; i < 5; i++) {
+        for (size_t k = 0; k < 5; k++) {
+            uint32_t low = places[i][0], high = places[i][1];
+            size_t low_count = places[k][0], high_count = places[k][1];
+            half first = ring(low, low_count), second = ring(high, high_count);
+            joins("sums of 64", first, second, two_rings(low, low_count, high, high_count));
+            half wider = ring(high + 1, high_count), longer = ring(high, high_count + 1);
+            size_t room = 64 * DESK_TRANSITION_BYTES;
+            for (size_t len = 0; len <= 2 * room; len += room) {
+                unjoined("65 places", first, wider, len, DESK_TOO_LARGE, 0);
+                unjoined("65 places", wider, first, len, DESK_TOO_LARGE, 0);
+                unjoined("65 transitions", first, longer, len, DESK_TOO_LARGE, 0);
+                unjoined("65 transitions", longer, first, len, DESK_TOO_LARGE, 0);
+            }
+            give_back();
+        }
+    }
+    half least = ring(1, 1), widest = ring(64, 1), longest = ring(1, 64), most = ring(64, 64);
+    for (size_t room = 0; room <= 4000; room += 4000) {
+        unjoined("64 places and 1", widest, least, room, DESK_TOO_LARGE, 0);
+        unjoined("1 place and 64", least, widest, room, DESK_TOO_LARGE, 0);
+        unjoined("64 transitions and 1", longest, least, room, DESK_TOO_LARGE, 0);
+        unjoined("1 transition and 64", least, longest, room, DESK_TOO_LARGE, 0);
+        unjoined("twice the most", most, most, room, DESK_TOO_LARGE, 0);
+    }
+}
+
+/* A half's refusals come in the order 1, 2, 3, 7, those of the first before those of the
+ * second, and all of them before 15 and 12. */
+static void joins_refused(void)
+{
+    table r = net_r(3);
+    static const struct {
+        const char *what;
+        uint32_t places;
+        uint64_t marking;
+        size_t len, at;
+        uint8_t value;
+        uint32_t number;
+        uint64_t record;
+    } cases[] = {
+        {"0 places", 0, 8, 0, 0, 0, DESK_BAD_ASK, 0},
+        {"65 places", 65, 8, 72, MARK, 2, DESK_BAD_ASK, 0},
+        {"259 places", 259, 3, 72, 0, 1, DESK_BAD_ASK, 0},
+        {"the most places", UINT32_MAX, 3, 72, 0, 1, DESK_BAD_ASK, 0},
+        {"no records", 3, 8, 0, 0, 0, DESK_BAD_NET_SIZE, 0},
+        {"part of a record", 3, 8, 71, MARK, 2, DESK_BAD_NET_SIZE, 0},
+        {"a byte more", 3, 3, 73, 0, 1, DESK_BAD_NET_SIZE, 0},
+        {"65 records", 3, 3, 65 * 24, 0, 1, DESK_BAD_NET_SIZE, 0},
+        {"2 places", 2, 8, 72, 0, 1, DESK_BAD_TRANSITION, 1},
+        {"pre beyond", 3, 8, 72, 24, 10, DESK_BAD_TRANSITION, 1},
+        {"post beyond", 3, 3, 72, 48 + 8, 8, DESK_BAD_TRANSITION, 2},
+        {"post far beyond", 3, 3, 72, 15, 128, DESK_BAD_TRANSITION, 0},
+        {"mark 2", 3, 8, 72, 24 + MARK, 2, DESK_BAD_TRANSITION, 1},
+        {"mark 255", 3, 3, 72, 48 + MARK, 255, DESK_BAD_TRANSITION, 2},
+        {"first spare byte", 3, 3, 72, MARK + 1, 1, DESK_BAD_TRANSITION, 0},
+        {"last spare byte", 3, 3, 72, 71, 128, DESK_BAD_TRANSITION, 2},
+        {"marking beyond", 3, 8, 72, 0, 1, DESK_BAD_MARKING, 0},
+        {"marking far beyond", 3, UINT64_C(1) << 63, 72, 0, 1, DESK_BAD_MARKING, 0},
+    };
+    enum { CASES = sizeof cases / sizeof cases[0] };
+    half faulty[CASES], good[2] = {half_of(3, 3, r), ring(64, 64)};
+    for (size_t i = 0; i < CASES; i++) {
+        table net = NOTHING;
+        if (cases[i].len > 0) {
+            net = changed(resized(r, cases[i].len), cases[i].at, cases[i].value);
+        }
+        faulty[i] = half_of(cases[i].places, cases[i].marking, net);
+    }
+    for (size_t room = 0; room <= 4000; room += 4000) {
+        for (size_t i = 0; i < CASES; i++) {
+            const char *what = cases[i].what;
+            uint32_t number = cases[i].number;
+            uint64_t record = cases[i].record;
+            for (size_t k = 0; k < 2; k++) {
+                unjoined(what, faulty[i], good[k], room, number, record);
+                unjoined(what, good[k], faulty[i], room, number, record);
+            }
+            for (size_t k = 0; k < CASES; k++) {
+                unjoined(what, faulty[i], faulty[k], room, number, record);
+            }
+        }
+    }
+    unjoined("no room", good[0], good[0], 0, DESK_SHORT_ROOM, 0);
+}
+
 /* The tables of "R holds 2" as files, to be compared with the other places that
  * have them: 0 where they are written. */
 static int write_table(const char *folder, const char *name, table t)
@@ -1432,6 +1682,12 @@ int main(int argc, char **argv)
     conversions_refused();
     give_back();
     conversions_at_the_limit();
+    give_back();
+    nets_joined();
+    give_back();
+    joins_at_the_limit();
+    give_back();
+    joins_refused();
     give_back();
     if (failed > 0) {
         printf("%u checks passed, %u failed\n", passed, failed);

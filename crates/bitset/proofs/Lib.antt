@@ -2,3 +2,4 @@
 pub mod Membership
 pub mod Relations
 pub mod Counting
+pub mod Shifts

@@ -1,7 +1,7 @@
 -- Sets of small numbers, each written as one number: k is in s where binary digit k of s is 1. Document 01: "A marking is one
 -- 64-bit number, bit k for place k", and a set of transitions is such a number too. Nothing here speaks of a width but `beyond`.
 -- Assumes nothing.
-use Prim.Native.Nat.{ℕ, zero, suc, _+_, _-_, _/_, _%_, _^_}
+use Prim.Native.Nat.{ℕ, zero, suc, _+_, _-_, _*_, _/_, _%_, _^_}
 use mathlib.Core.Bool.{Bool, true, false, cond, not, _&&_}
 use mathlib.Core.List.{List, [], _∷_, _++_}
 use lib.Bits.{bitAnd, bitOr}
@@ -52,3 +52,7 @@ passing f (suc n) = passing f n ++ cond (f n) (n ∷ []) []
 -- the numbers below w that are not below n
 unfoldable pub beyond : (w n : ℕ) → ℕ
 beyond w n = collect (λ k. not (ltb k n)) w
+
+-- the members of s, each n higher
+unfoldable pub shifted : (n s : ℕ) → ℕ
+shifted n s = s * 2 ^ n

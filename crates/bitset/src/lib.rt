@@ -88,6 +88,14 @@ pub fn beyond(n: u32) -> u64
     !(bit(n) - 1)
 }
 
+// The members of s, each n higher, where the highest is below 64 then.
+pub fn shift(s: u64, n: u32) -> u64
+    requires { ⌜ (n < 64) × (sets.shifted n s < 2 ^ 64) ⌝ }
+    ensures { λ r. ⌜ r ≡ sets.shifted n s ⌝ }
+{
+    s << n
+}
+
 // How many members s has.
 pub fn count(s: u64) -> u32
     ensures { λ r. ⌜ r ≡ ones s ⌝ }

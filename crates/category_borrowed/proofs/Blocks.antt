@@ -6,17 +6,14 @@ use mathlib.Core.List.{List}
 use Prim.Native.Nat.{ℕ, zero, suc, _+_, _*_, _≤_, _<_}
 use native.Mathlib.Nat.{suc-mul}
 use native.Mathlib.Omega.{arith}
-use lib.ListN.{length, take, drop, length-append, length-take, length-drop}
+use lib.ListN.{length, take, drop, length-append}
 use Rattle.tables.proofs.Counts.{record-inside}
+use Rattle.tables.proofs.Parts.{length-part}
 use Rattle.category.specs.Records.{count}
 use Rattle.category_borrowed.specs.Files.{borrows, valid}
 use Rattle.category_borrowed.specs.Lookup.{sourceAt}
 use Rattle.category_borrowed.specs.Converted.{withText, convertedRecord, convertedTo, converted}
 use Rattle.category_borrowed.proofs.Valid.{valid-length, source-inside}
-
--- a part of a list
-pub length-part : (n at : ℕ) (l : List ℕ) → at + n ≤ length l → length (take n (drop at l)) ≡ n
-length-part n at l h = simp (length-take, length-drop) (omega arith)
 
 -- a record with another's text
 length-with-text : (file : List ℕ) (i s : ℕ) → i < count file → s < count file → length (withText file i s) ≡ 32

@@ -7,23 +7,17 @@ use mathlib.Core.List.{List, [], _++_}
 use Prim.Native.Nat.{ℕ, zero, suc, _+_, _-_, _*_, _≤_, _<_}
 use native.Mathlib.Omega.{arith}
 use lib.ListN.{length, getD, take, drop, replicate, length-append, getD-replicate, List·getD-append}
-use lib.Seq.{getD-append-add}
 use Rattle.tables.proofs.Counts.{record-inside}
 use Rattle.tables.proofs.Below.{lt-or-ge}
+use Rattle.tables.proofs.Parts.{length-part, getD-part, getD-after}
 use Rattle.tables.proofs.Tests.{passed, if-true, if-false}
 use Rattle.category.specs.Records.{count}
 use Rattle.category_borrowed.specs.Files.{borrows, valid}
 use Rattle.category_borrowed.specs.Lookup.{sourceAt}
 use Rattle.category_borrowed.specs.Converted.{withText, convertedRecord, convertedTo, converted}
 use Rattle.category_borrowed.proofs.Valid.{source-own}
-use Rattle.category_borrowed.proofs.Blocks.{length-part, length-to}
-use Rattle.category_borrowed.proofs.Same.{Same, getD-part}
-
--- a byte after a front of n bytes
-getD-after : (a b : List ℕ) (n j : ℕ) → length a ≡ n → n ≤ j → getD (a ++ b) j 0 ≡ getD b (j - n) 0
-getD-after a b n j e l =
-    let p : j ≡ length a + (j - n) = omega arith in
-    ap (λ (x : ℕ). getD (a ++ b) x 0) p ∙ getD-append-add a b (j - n) 0
+use Rattle.category_borrowed.proofs.Blocks.{length-to}
+use Rattle.category_borrowed.proofs.Same.{Same}
 
 -- a record with another's text
 module _ (file : List ℕ) (i s : ℕ) (l : i < count file) where

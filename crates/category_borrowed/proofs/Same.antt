@@ -6,22 +6,18 @@ use Prim.Native.Nat.{ℕ, _+_, _*_, _≤_, _<_, zero-le}
 use native.Mathlib.Nat.{add-zero, add-assoc}
 use native.Mathlib.Omega.{arith}
 use lib.ListN.{length, getD, take, drop}
-use lib.Seq.{ext-getD, getD-take, getD-drop}
+use lib.Seq.{ext-getD}
 use lib.Dec.{eqb, leb}
 use Rattle.tables.specs.Bytes.{field}
 use Rattle.tables.specs.Below.{noneBelow}
 use Rattle.tables.proofs.Numbers.{field-two}
 use Rattle.tables.proofs.Counts.{record-inside}
 use Rattle.tables.proofs.Entries.{first-ext}
+use Rattle.tables.proofs.Parts.{length-part, getD-part}
 use Rattle.category.specs.Records.{count, actionAt, kindAt, lenderAt, textByte, spareZero, textLength}
 use Rattle.category.specs.Faults.{wrongByte, textIs, textGood}
 use Rattle.category.specs.Labels.{ownText}
 use Rattle.category.proofs.Sources.{text-length-le}
-use Rattle.category_borrowed.proofs.Blocks.{length-part}
-
--- a byte of a part
-pub getD-part : (n at : ℕ) (l : List ℕ) (j : ℕ) → j < n → getD (take n (drop at l)) j 0 ≡ getD l (at + j) 0
-getD-part n at l j h = getD-take n (drop at l) j 0 h ∙ getD-drop at l j 0
 
 -- parts with the same bytes
 part-same : (n a b : ℕ) (f g : List ℕ) → a + n ≤ length f → b + n ≤ length g → ((j : ℕ) → j < n → getD f (a + j) 0 ≡ getD g (b + j) 0)

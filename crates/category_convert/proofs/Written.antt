@@ -9,6 +9,7 @@ use native.Mathlib.Omega.{arith}
 use lib.ListN.{length, take, drop, replicate, length-append}
 use lib.Seq.{sets, length-sets}
 use Rattle.tables.proofs.Counts.{record-inside}
+use Rattle.tables.proofs.Parts.{length-part}
 use Rattle.tables.proofs.Tests.{if-true, if-false}
 use Rattle.stores.specs.Low.{lowBytes}
 use Rattle.stores.proofs.Stores.{after, sets-front}
@@ -16,7 +17,7 @@ use Rattle.category.specs.Records.{count}
 use Rattle.category_borrowed.specs.Files.{borrows, valid}
 use Rattle.category_borrowed.specs.Lookup.{sourceAt}
 use Rattle.category_borrowed.specs.Converted.{withText, convertedRecord, convertedTo, converted, borrowersTo, rewritten}
-use Rattle.category_borrowed.proofs.Blocks.{length-part, length-to, length-converted}
+use Rattle.category_borrowed.proofs.Blocks.{length-to, length-converted}
 
 -- ---- one record
 

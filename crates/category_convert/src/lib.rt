@@ -3,7 +3,7 @@ ghost use mathlib.Core.Path.{_≡_};
 ghost use mathlib.Core.Bool.{true, cond};
 ghost use mathlib.Core.List.{_++_};
 ghost use Prim.Native.Nat.{_+_, _*_, _≤_, _<_};
-ghost use lib.ListN.{length, take, drop};
+ghost use lib.ListN.{length, drop};
 ghost use lib.Seq.{sets};
 ghost use Rattle.tables.specs.Lists as lists;
 ghost use Rattle.category.specs.Records as records;
@@ -184,27 +184,15 @@ fn check_file(file: &[u8]) -> Checked
 
 // ---- the converted file
 
-// Copies n bytes of the file, from one offset on, to the room, from another on.
-fn copy(file: &[u8], from: usize, room: &mut [u8], at: usize, n: usize)
-    requires { ⌜ (from + n ≤ length (now file)) × (at + n ≤ length (now room)) ⌝ }
-    ensures { λ _. ⌜ now (room .exit) ≡ sets (now (room .entry)) at (take n (drop from (now (file .entry)))) ⌝ }
-{
-    let mut k: usize = 0;
-    while k < n {
-        room[at + k] = file[from + k];
-        k += 1;
-    }
-}
-
 // Writes record i with the text of record s: its action, six zero bytes, that text.
 fn put_with_text(file: &[u8], room: &mut [u8], i: usize, s: usize)
     requires { ⌜ (i < records.count (now file)) × (s < records.count (now file)) × (length (now file) ≤ length (now room)) ⌝ }
     ensures { λ _. ⌜ now (room .exit) ≡ sets (now (room .entry)) (i * records.recordSize) (conversion.withText (now (file .entry)) i s) ⌝ }
 {
     let at = i * RECORD;
-    copy(file, at, room, at, 2);
+    stores::copy(file, at, room, at, 2);
     stores::put_bytes(room, at + 2, 6, 0);
-    copy(
+    stores::copy(
         file,
         s * RECORD + TEXT_START,
         room,
@@ -223,7 +211,7 @@ fn put_record(file: &[u8], room: &mut [u8], i: usize) -> usize
         put_with_text(file, room, i, s);
         return 1;
     }
-    copy(file, i * RECORD, room, i * RECORD, RECORD);
+    stores::copy(file, i * RECORD, room, i * RECORD, RECORD);
     0
 }
 

@@ -1,5 +1,5 @@
 // The desk terminal's functions for C: the tree check, the single firing, the check of two category files, the place of a label, the converter of
-// category files with borrowed texts, PNML texts written and read, and trees written.
+// category files with borrowed texts, PNML texts written and read, trees written, and two nets side by side.
 // Each out-parameter is written at every call.
 ghost use mathlib.Core.Path.{_≡_};
 ghost use lib.ListN.{take, drop};
@@ -15,6 +15,9 @@ ghost use Rattle.pnml_write.specs.Answer as writing;
 ghost use Rattle.pnml_read.specs.Answer as reading;
 ghost use Rattle.tree_answer.specs.Answer as trees;
 ghost use Rattle.tree_answer.specs.Theorem as worth;
+ghost use Rattle.join.specs.Joint as nets;
+ghost use Rattle.join.specs.Answer as joining;
+ghost use Rattle.join.specs.Theorem as joints;
 use checker::Verdict;
 
 // The tree check's answer in document 01's numbers: 0 where granted; the record, the node or the number of nodes.
@@ -192,4 +195,40 @@ pub extern "C" fn desk_write_tree(
     *side = told.side;
     *nodes = told.nodes;
     told.number
+}
+
+// Sets two nets with their markings side by side and puts the joint records at the start of the room, whose other bytes stay: 0 with the joint
+// places, marking and bytes of the records, or the refusal with its record, the first half's before the second's, then 15, then 12; a refused call
+// writes nothing. At 0 loading finds no fault in the joint net, and each half goes on in it as if it stood alone.
+#[no_mangle]
+pub extern "C" fn desk_join(
+    first_places: u32,
+    first_marking: u64,
+    first: &[u8],
+    second_places: u32,
+    second_marking: u64,
+    second: &[u8],
+    room: &mut [u8],
+    record: &mut u64,
+    places: &mut u32,
+    marking: &mut u64,
+    length: &mut u64,
+) -> u32
+    ensures answer { λ r. let a = joining.joinAnswer (nets.marked «first_places» «first_marking» (now (first .entry))) (nets.marked «second_places» «second_marking» (now (second .entry))) (now (room .entry)) in ⌜ (r ≡ a .found .number) × (now («record» .exit) ≡ a .found .place) × (now (places .exit) ≡ a .places) × (now (marking .exit) ≡ a .marking) × (now (length .exit) ≡ a .length) × (now (room .exit) ≡ a .room) ⌝ }
+    ensures worth { λ r. ⌜ (r ≡ 0 → joints.SideBySide (nets.marked «first_places» «first_marking» (now (first .entry))) (nets.marked «second_places» «second_marking» (now (second .entry)))) ⌝ }
+{
+    let joined = join::join_numbers(join::join(
+        first_places,
+        first_marking,
+        first,
+        second_places,
+        second_marking,
+        second,
+        room,
+    ));
+    *record = joined.place;
+    *places = joined.places;
+    *marking = joined.marking;
+    *length = joined.length;
+    joined.number
 }

@@ -1,6 +1,6 @@
 -- The answers of loading and of the single firing: what each way through the code has found fixes the answer. Assumes nothing.
 use mathlib.Core.Path.{_≡_, refl, sym, ap, ap₂, _∙_}
-use mathlib.Core.Bool.{Bool, true, false, cond, not}
+use mathlib.Core.Bool.{Bool, true, false, cond, not, _&&_}
 use mathlib.Core.List.{List}
 use Prim.Native.Nat.{ℕ, _/_, _≤_, _<_}
 use native.Mathlib.Nat.{le-trans, le-of-eq}
@@ -8,7 +8,8 @@ use native.Mathlib.Omega.{arith}
 use lib.ListN.{length}
 use lib.Dec.{eqb, ltb}
 use borrow.Author.Tests.{lt-ltb, le-ltb, not-true, not-false, eqb-true, eqb-false}
-use Rattle.bitset.specs.Sets.{within}
+use Rattle.bitset.specs.Sets.{member, within}
+use Rattle.bitset.proofs.Relations.{member-collect}
 use Rattle.tables.specs.Faults.{scanFault}
 use Rattle.tables.specs.Lists.{first}
 use Rattle.tables.specs.Sizes.{sized}
@@ -20,8 +21,8 @@ use Rattle.net.specs.declared.Net.{Net}
 use Rattle.net.specs.declared.Refusal.{Refusal}
 use Rattle.net.specs.declared.Refusal.the-variants.{Places, Size, Record, Marking, Absent, Disabled}
 use Rattle.net.specs.declared.Checked.the-variants.{Good, Refused as Bad}
-use Rattle.net.specs.Step.{preOf, postOf, enabledBy, missingBy, occupiedBy, firedBy, missing, occupied, fired}
-use Rattle.net.specs.Table.{preAt, postAt, transitions, netOf, placesGood, tableSized, recordBad}
+use Rattle.net.specs.Step.{preOf, postOf, actionOf, enabledBy, missingBy, occupiedBy, firedBy, missing, occupied, fired}
+use Rattle.net.specs.Table.{preAt, postAt, actionAt, optionalAt, transitions, netOf, placesGood, tableSized, recordBad}
 use Rattle.net.specs.Answer.{Fault, noFault, fault, Answer, refuse, grant, disabledBy, refused, refusal, checked, orElse, tableFault, loadFault, disabled, stepAnswer, firing}
 use Rattle.net.proofs.Loops.{enabled-in}
 
@@ -147,6 +148,14 @@ module _ (places : ℕ) (bytes : List ℕ) (sized : tableSized bytes ≡ true) (
   pub decoded-post : postOf (netOf places bytes) t ≡ postAt bytes t
   unfolding netOf
   decoded-post = getD-upTo (postAt bytes) (transitions bytes) 64 t h count-most
+
+  pub decoded-action : actionOf (netOf places bytes) t ≡ actionAt bytes t
+  unfolding netOf
+  decoded-action = getD-upTo (actionAt bytes) (transitions bytes) 64 t h count-most
+
+  pub decoded-optional : member (netOf places bytes .optional) t ≡ optionalAt bytes t
+  unfolding netOf
+  decoded-optional = member-collect (optionalAt bytes) (transitions bytes) t ∙ ap (λ b. b && optionalAt bytes t) (lt-ltb t (transitions bytes) h)
 
 -- ---- the single firing
 

@@ -1,6 +1,7 @@
 -- The laws of nets that the other crates' proofs cite.
 pub mod Loops
 pub mod Answers
+pub mod Loaded
 pub mod Why
 pub mod Independence
 pub mod Runs

@@ -19,7 +19,7 @@ use Rattle.pnml_shape.proofs.Exact.{exact, written-draws}
 use Rattle.pnml_net.specs.Nets.{markingOf, recordsOf}
 use Rattle.pnml_net.specs.Round.{drawn, RoundTrip}
 use Rattle.pnml_net.proofs.Round.{round}
-use Rattle.pnml_net.proofs.Loaded.{Loaded, load-has}
+use Rattle.net.proofs.Loaded.{Loaded, load-has}
 use Rattle.pnml_write.specs.Answer.{textOf}
 use Rattle.pnml_read.specs.Answer.{Answer, refuse, few, granted, drawnAnswer, readAnswer}
 use Rattle.pnml_read.proofs.Answers.{same-answer}

@@ -1,27 +1,23 @@
 -- Records that arcs and entries give: loading finds no fault in them, and their net has these arcs and entries. Assumes nothing.
 use mathlib.Core.Path.{_≡_, sym, ap, _∙_, subst}
-use mathlib.Core.Bool.{Bool, true, false, cond, not, _&&_}
+use mathlib.Core.Bool.{Bool, true, false, cond}
 use mathlib.Core.List.{List}
 use mathlib.Core.Logic.{_⊎_, inl, inr}
-use Prim.Native.Nat.{ℕ, _+_, _*_, _/_, _%_, _^_, _≤_, _<_}
+use Prim.Native.Nat.{ℕ, _+_, _*_, _^_, _≤_, _<_}
 use native.Mathlib.Nat.{lt-of-lt-of-le, le-refl}
 use native.Mathlib.Omega.{arith}
 use lib.ListN.{length}
 use lib.Pow.{pow-mono}
-use lib.Dec.{eqb, leb}
-use borrow.Author.Tests.{ltb-true, le-leb, eq-eqb}
+use borrow.Author.Tests.{ltb-true}
 use Rattle.tables.specs.Bytes.{field}
-use Rattle.tables.specs.Sizes.{sized}
-use Rattle.tables.specs.Faults.{noFault}
-use Rattle.tables.proofs.Tests.{and-intro}
 use Rattle.tables.proofs.Below.{lt-or-ge}
-use Rattle.tables.proofs.Scans.{scan-clear}
 use Rattle.bitset.specs.Sets.{within}
 use Rattle.net.specs.declared.Net.{Net}
 use Rattle.net.specs.Step.{preOf, postOf}
-use Rattle.net.specs.Table.{preAt, postAt, markAt, spareAt, transitions, netOf, placesGood, tableSized, recordBad}
-use Rattle.net.specs.Answer.{checked, tableFault, loadFault}
-use Rattle.net.proofs.Answers.{load-good, decoded-pre, decoded-post}
+use Rattle.net.specs.Table.{preAt, postAt, markAt, spareAt, transitions, netOf, tableSized}
+use Rattle.net.specs.Answer.{loadFault}
+use Rattle.net.proofs.Answers.{decoded-pre, decoded-post}
+use Rattle.net.proofs.Loaded.{Loaded, sized-by, has-load}
 use Rattle.pnml_shape.specs.Drawing.{Arc, arcsGood}
 use Rattle.pnml_net.specs.Nets.{countdown, netArcs, entryOf, setOf, recordsOf}
 use Rattle.pnml_net.proofs.Marks.{countdown-length}
@@ -67,9 +63,11 @@ module _ (places : ℕ) (arcs : List Arc) (act : ℕ → ℕ) (n : ℕ) (fits : 
   unfolding table
   size = records-length arcs (countdown act n) ∙ ap (λ (k : ℕ). k * 24) (countdown-length act n)
 
+  whole : (tableSized table ≡ true) × (transitions table ≡ n)
+  whole = sized-by table n size (fits .least) (fits .most)
+
   count : transitions table ≡ n
-  unfolding transitions
-  count = let e : length table ≡ n * 24 = size in omega arith
+  count = whole .1
 
   -- the sets, and what is read from a record
   within-places : (t : ℕ) (q : Bool) → within places (setOf arcs t q) ≡ true
@@ -100,44 +98,28 @@ module _ (places : ℕ) (arcs : List Arc) (act : ℕ → ℕ) (n : ℕ) (fits : 
 
   -- ---- loading
 
-  is-sized : tableSized table ≡ true
-  unfolding tableSized sized
-  is-sized =
-      let k = length table in
-      let e : k ≡ n * 24 = size in
-      let r : k % 24 ≡ 0 = omega arith in
-      let d : k / 24 ≡ n = omega arith in
-      and-intro (eqb (k % 24) 0 && leb 1 (k / 24)) (leb (k / 24) 64)
-      (and-intro (eqb (k % 24) 0) (leb 1 (k / 24)) (eq-eqb (k % 24) 0 r) (le-leb 1 (k / 24) (omega arith)))
-      (le-leb (k / 24) 64 (omega arith))
+  below : (t : ℕ) → t < transitions table → t < n
+  below t h = subst (λ (x : ℕ). t < x) count h
 
-  none-bad : (t : ℕ) → t < n → recordBad places table t ≡ false
-  unfolding recordBad
-  none-bad t h =
-      let a = within places (preAt table t) in
-      let b = within places (postAt table t) in
-      let c = leb (markAt table t) 1 in
-      let d = eqb (spareAt table t) 0 in
-      ap not
-      (and-intro (a && b && c) d
-      (and-intro (a && b) c
-      (and-intro a b (ap (within places) (pre-is t h) ∙ within-places t false)
-      (ap (within places) (post-is t h) ∙ within-places t true))
-      (le-leb (markAt table t) 1 (mark-is t h)))
-      (eq-eqb (spareAt table t) 0 (spare-is t h)))
-
-  table-good : noFault ≡ tableFault places table
-  unfolding tableFault tableSized transitions
-  table-good =
-      sym (scan-clear 2 3 24 1 64 (recordBad places table) (length table) is-sized (λ t h. none-bad t (subst (λ (x : ℕ). t < x) count h)))
-
-  places-good : placesGood places ≡ true
-  unfolding placesGood
-  places-good = and-intro (leb 1 places) (leb places 64) (le-leb 1 places (fits .places-least)) (le-leb places 64 (fits .places-most))
+  has : (m : ℕ) → within places m ≡ true → Loaded places m table
+  has m w =
+      record {
+        places-least = fits .places-least;
+        places-most = fits .places-most;
+        marking = w;
+        size = whole .0;
+        whole = let e : transitions table ≡ n = count in let s : length table ≡ n * 24 = size in omega arith;
+        least = subst (λ (x : ℕ). 1 ≤ x) (sym count) (fits .least);
+        most = subst (λ (x : ℕ). x ≤ 64) (sym count) (fits .most);
+        pre = λ t h. ap (within places) (pre-is t (below t h)) ∙ within-places t false;
+        post = λ t h. ap (within places) (post-is t (below t h)) ∙ within-places t true;
+        mark = λ t h. mark-is t (below t h);
+        spare = λ t h. spare-is t (below t h);
+      }
 
   pub loads : (m : ℕ) → within places m ≡ true → loadFault places m (recordsOf arcs (countdown act n)) .number ≡ 0
-  unfolding checked table
-  loads m w = ap (λ f. f .number) (sym (load-good places m table (ap not places-good) table-good w))
+  unfolding table
+  loads m w = ap (λ f. f .number) (sym (has-load places m table (has m w)))
 
   -- ---- the net
 
@@ -146,14 +128,13 @@ module _ (places : ℕ) (arcs : List Arc) (act : ℕ → ℕ) (n : ℕ) (fits : 
 
   net-sets : (t : ℕ) → t < n → (q : Bool) → cond q (postOf net t) (preOf net t) ≡ setOf arcs t q
   unfolding net
-  net-sets t h true = decoded-post places table is-sized t (subst (λ (x : ℕ). t < x) (sym count) h) ∙ post-is t h
-  net-sets t h false = decoded-pre places table is-sized t (subst (λ (x : ℕ). t < x) (sym count) h) ∙ pre-is t h
+  net-sets t h true = decoded-post places table (whole .0) t (subst (λ (x : ℕ). t < x) (sym count) h) ∙ post-is t h
+  net-sets t h false = decoded-pre places table (whole .0) t (subst (λ (x : ℕ). t < x) (sym count) h) ∙ pre-is t h
 
   net-entry : (t : ℕ) → t < n → entryOf net t ≡ act t
   unfolding net
   net-entry t h =
-      let e : transitions table ≡ n = count in
-      entry-decoded places table (omega arith) t (omega arith) ∙ entry-field table t (mark-is t h) ∙ entry-is t h
+      entry-decoded places table (whole .0) t (subst (λ (x : ℕ). t < x) (sym count) h) ∙ entry-field table t (mark-is t h) ∙ entry-is t h
 
   pub net-count : netOf places (recordsOf arcs (countdown act n)) .transitions ≡ n
   unfolding table netOf

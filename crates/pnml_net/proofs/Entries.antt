@@ -1,17 +1,15 @@
 -- The entries of transitions: action and mark of a record as one number, and as the net of a table has them. Assumes nothing.
 use mathlib.Core.Path.{_≡_, refl, sym, ap, ap₂, _∙_}
-use mathlib.Core.Bool.{cond, _&&_}
+use mathlib.Core.Bool.{true, cond}
 use mathlib.Core.List.{List}
 use Prim.Native.Nat.{ℕ, zero, suc, _+_, _*_, _^_, _≤_, _<_}
 use native.Mathlib.Nat.{add-assoc}
 use native.Mathlib.Omega.{arith}
 use lib.Dec.{eqb}
-use borrow.Author.Tests.{lt-ltb}
 use Rattle.tables.specs.Bytes.{field}
 use Rattle.tables.proofs.Numbers.{Bytes, field-split, field-lt}
-use Rattle.tables.proofs.Entries.{getD-upTo}
-use Rattle.bitset.proofs.Relations.{member-collect}
-use Rattle.net.specs.Table.{actionAt, markAt, optionalAt, transitions, netOf}
+use Rattle.net.specs.Table.{actionAt, markAt, optionalAt, transitions, netOf, tableSized}
+use Rattle.net.proofs.Answers.{decoded-action, decoded-optional}
 use Rattle.pnml_net.specs.Nets.{entryBy, entryOf}
 
 -- ---- in a table
@@ -46,10 +44,7 @@ module _ (l : List ℕ) (bytes : Bytes l) (t : ℕ) where
 
 -- ---- in the net of a table
 
-pub entry-decoded : (places : ℕ) (l : List ℕ) → transitions l ≤ 64 → (t : ℕ) → t < transitions l
+pub entry-decoded : (places : ℕ) (l : List ℕ) → tableSized l ≡ true → (t : ℕ) → t < transitions l
     → entryOf (netOf places l) t ≡ entryBy (actionAt l t) (optionalAt l t)
-unfolding entryOf netOf
-entry-decoded places l n t h =
-    ap₂ entryBy (getD-upTo (actionAt l) (transitions l) 64 t h n)
-    (member-collect (optionalAt l) (transitions l) t
-    ∙ ap (λ b. b && optionalAt l t) (lt-ltb t (transitions l) h))
+unfolding entryOf
+entry-decoded places l s t h = ap₂ entryBy (decoded-action places l s t h) (decoded-optional places l s t h)

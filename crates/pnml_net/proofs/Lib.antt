@@ -3,7 +3,6 @@ pub mod Marks
 pub mod Members
 pub mod Sets
 pub mod Good
-pub mod Loaded
 pub mod Entries
 pub mod Records
 pub mod Order

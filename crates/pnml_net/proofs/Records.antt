@@ -21,7 +21,7 @@ use Rattle.net.proofs.Answers.{decoded-pre, decoded-post}
 use Rattle.pnml_net.specs.Nets.{countdown, netArcs, entryOf, drawingOf, setOf, recordBytes, recordsOf}
 use Rattle.pnml_net.proofs.Marks.{countdown-length}
 use Rattle.pnml_net.proofs.Sets.{set-back}
-use Rattle.pnml_net.proofs.Loaded.{Loaded}
+use Rattle.net.proofs.Loaded.{Loaded}
 use Rattle.pnml_net.proofs.Entries.{entry-field, entry-most, entry-decoded}
 
 -- ---- one record
@@ -84,11 +84,11 @@ module _ (places m : ℕ) (bytes : List ℕ) (has : Loaded places m bytes) where
 
   entry-back : (t : ℕ) → t < transitions bytes → entryOf net t ≡ field 3 (t * 24 + 16) bytes
   unfolding net
-  entry-back t h = entry-decoded places bytes (has .most) t h ∙ entry-field bytes t (has .mark t h)
+  entry-back t h = entry-decoded places bytes (has .size) t h ∙ entry-field bytes t (has .mark t h)
 
   -- each entry is an action, with 65,536 added or not
   pub entries-most : Bytes bytes → (t : ℕ) → t < transitions bytes → entryOf (netOf places bytes) t ≤ 131071
-  entries-most b t h = omega (arith, entry-decoded places bytes (has .most) t h, entry-most bytes b t (has .mark t h))
+  entries-most b t h = omega (arith, entry-decoded places bytes (has .size) t h, entry-most bytes b t (has .mark t h))
 
   -- its records, one by one and all
   inside : (t : ℕ) → t < transitions bytes → t * 24 + 24 ≤ length bytes

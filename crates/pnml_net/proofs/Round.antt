@@ -14,7 +14,7 @@ use Rattle.pnml_net.specs.Nets.{countdown, markOf, netArcs, entryOf, dra
 use Rattle.pnml_net.specs.Round.{RoundTrip, drawn, placesIn, transitionsIn, ReadTrip}
 use Rattle.pnml_net.proofs.Marks.{countdown-length, marking-back}
 use Rattle.pnml_net.proofs.Good.{drawing-good}
-use Rattle.pnml_net.proofs.Loaded.{Loaded, load-has}
+use Rattle.net.proofs.Loaded.{Loaded, load-has}
 use Rattle.pnml_net.proofs.Records.{entries-most, records-loaded}
 use Rattle.pnml_net.proofs.Lists.{numbered-all, numbered-most, marking-within, marks-again}
 use Rattle.pnml_net.proofs.Fields.{records-bytes}

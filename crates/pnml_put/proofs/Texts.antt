@@ -40,7 +40,7 @@ module _ (b : List ℕ) (sized : tableSized b ≡ true) where
   module _ (n m : ℕ) where
     decoded-entry : (t : ℕ) → t < transitions b → entryAt b t ≡ entryOf (netOf n b) t
     unfolding entryAt
-    decoded-entry t h = sym (entry-decoded n b count-most t h)
+    decoded-entry t h = sym (entry-decoded n b sized t h)
 
     pub net-text : bodyText b n m (transitions b) ++ bytes "</page></net></pnml>" ≡ netText b n m
     unfolding netText drawingOf netOf

@@ -5,3 +5,4 @@ pub mod Entries
 pub mod Below
 pub mod Counts
 pub mod Scans
+pub mod Parts

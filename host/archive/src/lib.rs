@@ -83,6 +83,22 @@ mod c {
             record: *mut u64,
             rewritten: *mut u64,
         ) -> u32;
+        pub fn desk_join(
+            first_places: u32,
+            first_marking: u64,
+            first: *const u8,
+            first_len: usize,
+            second_places: u32,
+            second_marking: u64,
+            second: *const u8,
+            second_len: usize,
+            room: *mut u8,
+            room_len: usize,
+            record: *mut u64,
+            places: *mut u32,
+            marking: *mut u64,
+            length: *mut u64,
+        ) -> u32;
     }
 }
 
@@ -256,4 +272,40 @@ pub fn convert_categories(file: &[u8], room: &mut [u8]) -> (u32, u64, u64) {
         )
     };
     (number, record, rewritten)
+}
+
+/// The number, the record, the places, the marking and the length.
+pub fn join(
+    first_places: u32,
+    first_marking: u64,
+    first: &[u8],
+    second_places: u32,
+    second_marking: u64,
+    second: &[u8],
+    room: &mut [u8],
+) -> (u32, u64, u32, u64, u64) {
+    let mut record = UNWRITTEN;
+    let mut places = UNWRITTEN as u32;
+    let mut marking = UNWRITTEN;
+    let mut length = UNWRITTEN;
+    // SAFETY: as in `check`.
+    let number = unsafe {
+        c::desk_join(
+            first_places,
+            first_marking,
+            first.as_ptr(),
+            first.len(),
+            second_places,
+            second_marking,
+            second.as_ptr(),
+            second.len(),
+            room.as_mut_ptr(),
+            room.len(),
+            &mut record,
+            &mut places,
+            &mut marking,
+            &mut length,
+        )
+    };
+    (number, record, places, marking, length)
 }

@@ -8,9 +8,10 @@ use generate::cases::TreeCase;
 use generate::categories::{borrower, named};
 use generate::encode::{self, Transition};
 use generate::families::{self, NET_R};
+use generate::nets::LentNet;
 use generate::written::{self as claims, WrittenCase};
 use reference::category::CATEGORIES;
-use reference::{Refusal, category, check, converted, net, pnml, written};
+use reference::{Refusal, category, check, converted, joined, net, pnml, written};
 
 type Call = Box<dyn Fn() -> u64>;
 
@@ -30,7 +31,7 @@ impl Bench {
 /// A name and what makes the case.
 type Named = (&'static str, fn() -> Bench);
 
-pub const CASES: [Named; 37] = [
+pub const CASES: [Named; 40] = [
     ("tree: R, 23 nodes", || tree_bench(families::r_holds())),
     ("tree: trail of 32767", || {
         tree_bench(families::trail_chain(32_767))
@@ -48,7 +49,7 @@ pub const CASES: [Named; 37] = [
         fire_bench(large_net(), 64, u64::MAX, 63)
     }),
     ("fire: 64, not enabled", || {
-        fire_bench(ring_net(), 64, u64::MAX >> 1, 63)
+        fire_bench(ring_net(64), 64, u64::MAX >> 1, 63)
     }),
     ("categories: full files", categories_bench),
     ("label: small files", || {
@@ -112,6 +113,18 @@ pub const CASES: [Named; 37] = [
     ("converted: all from last", || {
         convert_bench(lent_file(CATEGORIES))
     }),
+    ("joined: R beside R", || {
+        let r = || LentNet {
+            places: 3,
+            marking: 3,
+            net: encode::net(&NET_R),
+        };
+        join_bench(r(), r())
+    }),
+    ("joined: 32 and 32", || join_bench(ring_of(32), ring_of(32))),
+    ("joined: 33 and 32, 15", || {
+        join_bench(ring_of(33), ring_of(32))
+    }),
 ];
 
 fn two(number: u32, place: u64) -> u64 {
@@ -148,14 +161,14 @@ fn large_net() -> Vec<u8> {
     encode::net(&(0..64).map(loop_at).collect::<Vec<_>>())
 }
 
-/// A ring of 64 places.
-fn ring_net() -> Vec<u8> {
+/// A ring of so many places.
+fn ring_net(places: usize) -> Vec<u8> {
     let step = |t: usize| Transition {
         pre: 1 << t,
-        post: 1 << ((t + 1) % 64),
+        post: 1 << ((t + 1) % places),
         action: t as u16,
     };
-    encode::net(&(0..64).map(step).collect::<Vec<_>>())
+    encode::net(&(0..places).map(step).collect::<Vec<_>>())
 }
 
 fn fire_bench(net: Vec<u8>, places: u32, marking: u64, t: u32) -> Bench {
@@ -341,6 +354,46 @@ pub fn convert_bench(file: Vec<u8>) -> Bench {
             let room = &mut room_copy.borrow_mut()[..];
             let answer = converted::convert(black_box(&copy), black_box(room));
             answer.unwrap_or_else(|refusal| two(refusal.number, refusal.record))
+        }),
+    }
+}
+
+/// A ring of so many places with one token.
+pub fn ring_of(places: usize) -> LentNet {
+    LentNet {
+        places: places as u32,
+        marking: 1,
+        net: ring_net(places),
+    }
+}
+
+pub fn join_bench(first: LentNet, second: LentNet) -> Bench {
+    let copy = (first.clone(), second.clone());
+    let room = RefCell::new([0; 64 * 24]);
+    let room_copy = room.clone();
+    Bench {
+        archive: Box::new(move || {
+            let (first, second) = (black_box(&first), black_box(&second));
+            let room = &mut room.borrow_mut()[..];
+            let answer = archive::join(
+                first.places,
+                first.marking,
+                &first.net,
+                second.places,
+                second.marking,
+                &second.net,
+                black_box(room),
+            );
+            two(answer.0 ^ answer.2, answer.1 ^ answer.3 ^ answer.4)
+        }),
+        reference: Box::new(move || {
+            let (first, second) = (black_box(&copy.0), black_box(&copy.1));
+            let room = &mut room_copy.borrow_mut()[..];
+            let answer = joined::join(first.half(), second.half(), black_box(room));
+            answer.map_or_else(
+                |refusal| two(refusal.number, refusal.record),
+                |joined| two(joined.places, joined.marking ^ joined.length as u64),
+            )
         }),
     }
 }

@@ -4,8 +4,8 @@
 //! bench list                       the names of the cases
 //! bench one CASE SIDE TIMES        one case on one side (archive, reference)
 //! bench growth                     cost by nodes, depth and transitions, by length
-//!                                  of text, of written trees by nodes and steps, and
-//!                                  of converted files by records
+//!                                  of text, of written trees by nodes and steps, of
+//!                                  converted files and of joint nets by records
 //! bench tables FOLDER              the tables of the cases as files, for pair/
 
 mod cases;
@@ -14,8 +14,8 @@ mod measure;
 use std::path::Path;
 
 use cases::{
-    Bench, CASES, convert_bench, lent_file, net_of, read_bench, text, tree_bench, write_bench,
-    written_bench,
+    Bench, CASES, convert_bench, join_bench, lent_file, net_of, read_bench, ring_of, text,
+    tree_bench, write_bench, written_bench,
 };
 use generate::cases::TreeCase;
 use generate::families;
@@ -100,6 +100,9 @@ fn growth() {
     println!("by records converted (all but the last borrow from it)");
     let files = [125, 250, 500, 1000, 2000].map(|n| (n, convert_bench(lent_file(n))));
     grow_parts("record", files);
+    println!("by records joined (two rings, half of them in each)");
+    let rings = [1, 2, 4, 8, 16, 32].map(|n| (2 * n, join_bench(ring_of(n), ring_of(n))));
+    grow_parts("record", rings);
 }
 
 /// The text of a net with all arcs of the first transitions.

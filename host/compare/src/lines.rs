@@ -5,6 +5,8 @@ use std::process::ExitCode;
 use generate::cases::TreeCase;
 use generate::categories::{ConvertCase, LabelCase};
 use generate::firings::FiringCase;
+use generate::joined::JoinCase;
+use generate::nets::LentNet;
 use generate::pnml::{ReadCase, WriteCase};
 use generate::written::WrittenCase;
 use reference::check::Verdict;
@@ -13,6 +15,7 @@ use reference::{category, check};
 use crate::converted;
 use crate::drawings;
 use crate::firings;
+use crate::joined;
 use crate::rooms::Answer;
 use crate::written;
 
@@ -83,6 +86,13 @@ pub fn written(case: &WrittenCase, expected: &Answer, found: &Answer) -> String 
 pub fn converted(case: &ConvertCase, expected: &Answer, found: &Answer) -> String {
     let (file, room) = (hex(&case.file), case.room);
     format!("converted {file} {room} = {expected} but {found}")
+}
+
+pub fn joined(case: &JoinCase, expected: &Answer, found: &Answer) -> String {
+    let nets = [&case.first, &case.second]
+        .map(|lent| format!("{} {} {}", lent.places, lent.marking, hex(&lent.net)));
+    let (nets, room) = (nets.join(" "), case.room);
+    format!("joined {nets} {room} = {expected} but {found}")
 }
 
 /// A firing's answer, and the same without the sets.
@@ -186,6 +196,21 @@ fn answers(kind: &str, input: &str) -> (String, String) {
             let expected = converted::reference_file(&case);
             (found.to_string(), expected.to_string())
         }
+        "joined" => {
+            let lent = |i: usize| LentNet {
+                places: fields[i].parse().expect("places"),
+                marking: fields[i + 1].parse().expect("a marking"),
+                net: bytes(fields[i + 2]),
+            };
+            let case = JoinCase {
+                first: lent(0),
+                second: lent(3),
+                room: fields[6].parse().expect("a room"),
+            };
+            let found = joined::archive_net(&case);
+            let expected = joined::reference_net(&case);
+            (found.to_string(), expected.to_string())
+        }
         _ => {
             let case = FiringCase {
                 places: fields[0].parse().expect("places"),
@@ -202,7 +227,7 @@ fn answers(kind: &str, input: &str) -> (String, String) {
 }
 
 /// What the lines begin with.
-const KINDS: [&str; 7] = [
+const KINDS: [&str; 8] = [
     "tree ",
     "label ",
     "firing ",
@@ -210,6 +235,7 @@ const KINDS: [&str; 7] = [
     "pnml_read ",
     "written ",
     "converted ",
+    "joined ",
 ];
 
 /// Compares the archive with every line of the vectors.
@@ -228,6 +254,7 @@ pub fn vectors(folder: &str) -> ExitCode {
         ("converted", "converted"),
         ("label", "labels_6"),
         ("firing", "firings_7"),
+        ("joined", "joined"),
     ] {
         let path = format!("{folder}/{name}.txt");
         let text = std::fs::read_to_string(&path).expect("the vectors are readable");

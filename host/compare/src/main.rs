@@ -8,6 +8,7 @@
 mod converted;
 mod drawings;
 mod firings;
+mod joined;
 mod lines;
 mod programs;
 mod rooms;
@@ -21,6 +22,7 @@ use generate::cases::{Case, Generator, Kind, TreeCase};
 use generate::categories::{ConvertCase, LabelCase, convert_case, has_borrower};
 use generate::encode::{has_optional, has_until};
 use generate::firings::FiringCase;
+use generate::joined::{JoinCase, join_case};
 use generate::pnml::{ReadCase, WriteCase, read_case, write_case};
 use generate::prng::Prng;
 use generate::written::{WrittenCase, written_case};
@@ -35,10 +37,11 @@ use tally::Tally;
 const MARKINGS: usize = 3000;
 /// Of so many cases, one more is a net to write and one a text to read.
 const DRAWINGS: u64 = 8;
-/// Of so many cases, one more is a claim whose tree is written, and one a category file
-/// to convert.
+/// Of so many cases, one more is a claim whose tree is written, one a category file to
+/// convert, and one a pair of nets to join.
 const CLAIMS: u64 = 5;
 const CONVERSIONS: u64 = 5;
+const JOINS: u64 = 5;
 
 fn main() -> ExitCode {
     let arguments: Vec<String> = std::env::args().skip(1).collect();
@@ -69,6 +72,7 @@ fn generated(cases: u64, seed: u64) -> ExitCode {
     let mut drawings = Prng::new(seed);
     let mut claims = Prng::new(seed);
     let mut conversions = Prng::new(seed);
+    let mut joins = Prng::new(seed);
     let mut tally = Tally::default();
     for case in 0..cases {
         if case % DRAWINGS == 0 {
@@ -80,6 +84,9 @@ fn generated(cases: u64, seed: u64) -> ExitCode {
         }
         if case % CONVERSIONS == 0 {
             compare_converted(&mut tally, &convert_case(&mut conversions));
+        }
+        if case % JOINS == 0 {
+            compare_joined(&mut tally, &join_case(&mut joins));
         }
         match generator.case() {
             Case::Tree(kind, case) => compare_tree(&mut tally, kind, &case),
@@ -240,5 +247,19 @@ fn compare_converted(tally: &mut Tally, case: &ConvertCase) {
     }
     if found.number() == 0 && !converted::serves(case, found.written()) {
         tally.unserved(case.file.len(), line);
+    }
+}
+
+fn compare_joined(tally: &mut Tally, case: &JoinCase) {
+    let expected = joined::reference_net(case);
+    let found = joined::archive_net(case);
+    tally.joined(expected.number(), joined::shown(case, expected.number()));
+    let size = case.first.net.len() + case.second.net.len();
+    let line = || lines::joined(case, &expected, &found);
+    if found != expected {
+        tally.difference(size, line);
+    }
+    if found.number() == 0 && !joined::as_in_the_halves(case, &found) {
+        tally.unlike(size, line);
     }
 }

@@ -4,6 +4,7 @@ use generate::cases::{KINDS, Kind};
 use reference::rules::RULES;
 
 use crate::firings::REASONS;
+use crate::joined::SHOWN;
 
 /// The answers that must occur.
 const ANSWERS: [u32; 19] = [
@@ -21,6 +22,9 @@ const WRITTEN: [u32; 9] = [0, 1, 2, 3, 4, 5, 7, 12, 14];
 /// for files with a record of kind 1.
 const CONVERTED: [u32; 4] = [0, 9, 10, 12];
 const BORROWED: [u32; 3] = [0, 10, 12];
+
+/// The answers of the join that must occur.
+const JOINED: [u32; 7] = [0, 1, 2, 3, 7, 12, 15];
 
 /// The rules that depend on what is pressed, all of which must occur in accepted
 /// trees at markings where an optional transition is enabled.
@@ -82,6 +86,34 @@ impl Counts {
     }
 }
 
+/// How many cases show each of several things.
+struct Shown<const N: usize>([u64; N]);
+
+impl<const N: usize> Default for Shown<N> {
+    fn default() -> Shown<N> {
+        Shown([0; N])
+    }
+}
+
+impl<const N: usize> Shown<N> {
+    fn add(&mut self, shown: [bool; N]) {
+        let counts = self.0.iter_mut().zip(shown);
+        counts.for_each(|(count, shown)| *count += u64::from(shown));
+    }
+
+    fn text(&self, names: &[&str; N]) -> String {
+        let count = |(name, n): (&&str, u64)| format!("{name} {n}");
+        let counts = names.iter().zip(self.0).map(count);
+        counts.collect::<Vec<_>>().join(", ")
+    }
+
+    /// Those of the names that never occurred.
+    fn missing(&self, of: &str, names: &[&str; N]) -> Vec<String> {
+        let missing = names.iter().zip(self.0).filter(|(_, n)| *n == 0);
+        missing.map(|(name, _)| format!("{of}, {name}")).collect()
+    }
+}
+
 /// How many cases there were, and how many of them were granted.
 #[derive(Clone, Copy, Default)]
 struct Granted {
@@ -128,7 +160,7 @@ pub struct Tally {
     pub retired: u64,
     firings: Marked,
     /// How many answers 41 show each of the reasons.
-    reasons: [u64; REASONS.len()],
+    reasons: Shown<{ REASONS.len() }>,
     rules: Counts,
     /// The rules where an optional transition is enabled.
     optional_rules: Counts,
@@ -144,6 +176,9 @@ pub struct Tally {
     converted: Counts,
     /// The answers where the file has a record of kind 1.
     borrowed_converted: Counts,
+    joined: Counts,
+    /// How many pairs of nets show each of what they can.
+    joined_shown: Shown<{ SHOWN.len() }>,
     pub evaluated: u64,
     pub unevaluated: u64,
     pub refused_valid: u64,
@@ -154,6 +189,7 @@ pub struct Tally {
     contradictions: Findings,
     unserved: Findings,
     unfit: Findings,
+    unlike: Findings,
 }
 
 impl Tally {
@@ -167,8 +203,7 @@ impl Tally {
     }
 
     pub fn reasons(&mut self, shown: [bool; REASONS.len()]) {
-        let counts = self.reasons.iter_mut().zip(shown);
-        counts.for_each(|(count, shown)| *count += u64::from(shown));
+        self.reasons.add(shown);
     }
 
     pub fn answer(&mut self, number: u32) {
@@ -206,6 +241,11 @@ impl Tally {
         }
     }
 
+    pub fn joined(&mut self, number: u32, shown: [bool; SHOWN.len()]) {
+        self.joined.add(number);
+        self.joined_shown.add(shown);
+    }
+
     /// A rule of an accepted tree, at a marking where an optional transition is
     /// enabled or not.
     pub fn rule(&mut self, number: u8, optional: bool) {
@@ -233,6 +273,11 @@ impl Tally {
         self.unfit.add(size, line);
     }
 
+    /// A joint net of the archive that fires otherwise than its halves.
+    pub fn unlike(&mut self, size: usize, line: impl Fn() -> String) {
+        self.unlike.add(size, line);
+    }
+
     pub fn print(&self) {
         println!("cases by kind:");
         for (place, (_, name)) in KINDS.iter().enumerate() {
@@ -243,9 +288,7 @@ impl Tally {
             self.label_pairs, self.labels, self.retired
         );
         self.firings.print("single firings", "fired");
-        let reasons = REASONS.iter().zip(self.reasons);
-        let reasons: Vec<String> = reasons.map(|(name, n)| format!("{name} {n}")).collect();
-        println!("  not enabled: {}", reasons.join(", "));
+        println!("  not enabled: {}", self.reasons.text(&REASONS));
         println!("rules in accepted trees:");
         println!("  {}", self.rules.text(&RULES.map(u32::from)));
         println!(
@@ -272,6 +315,8 @@ impl Tally {
             "  with a record of kind 1: {}",
             self.borrowed_converted.text(&BORROWED)
         );
+        println!("  nets joined: {}", self.joined.text(&JOINED));
+        println!("  of these: {}", self.joined_shown.text(&SHOWN));
         println!(
             "accepted trees with the meaning evaluated: {}, graph too large: {}",
             self.evaluated, self.unevaluated
@@ -291,6 +336,7 @@ impl Tally {
         self.contradictions.print("accepted against the meaning");
         self.unserved.print("against the file before");
         self.unfit.print("sets that cannot be");
+        self.unlike.print("otherwise than the halves");
         self.differences.print("difference");
         println!(
             "accepted against the meaning: {}",
@@ -298,6 +344,7 @@ impl Tally {
         );
         println!("against the file before: {}", self.unserved.count);
         println!("sets that cannot be: {}", self.unfit.count);
+        println!("otherwise than the halves: {}", self.unlike.count);
         println!("differences: {}", self.differences.count);
     }
 
@@ -327,9 +374,9 @@ impl Tally {
         missing.extend(self.reads.missing("reader's answer", &READS));
         missing.extend(self.written.missing("written tree's answer", &WRITTEN));
         missing.extend(self.converted.missing("converter's answer", &CONVERTED));
-        for (name, _) in REASONS.iter().zip(self.reasons).filter(|r| r.1 == 0) {
-            missing.push(format!("answer 41, {name}"));
-        }
+        missing.extend(self.reasons.missing("answer 41", &REASONS));
+        missing.extend(self.joined.missing("join's answer", &JOINED));
+        missing.extend(self.joined_shown.missing("join", &SHOWN));
         if self.retired == 0 {
             missing.push("answer 10 for kind 1 alone".to_owned());
         }
@@ -341,6 +388,7 @@ impl Tally {
             && self.contradictions.count == 0
             && self.unserved.count == 0
             && self.unfit.count == 0
+            && self.unlike.count == 0
             && self.stuck == 0
             && self.refused_valid == 0
             && self.missing().is_empty()

@@ -1,13 +1,16 @@
 //! A seeded generator of cases: trees, category files, single firings, nets as
-//! PNML text, claims whose tree is to be written, and category files to convert.
+//! PNML text, claims whose tree is to be written, category files to convert, and
+//! pairs of nets to be joined.
 
 pub mod cases;
 pub mod categories;
 pub mod encode;
 pub mod families;
 pub mod firings;
+pub mod joined;
 pub mod layout;
 pub mod mutate;
+pub mod nets;
 pub mod pnml;
 pub mod prng;
 pub mod rooms;

@@ -1,13 +1,11 @@
 //! Nets to be written as PNML text, and texts to be read.
 
-use reference::net::{Net, TRANSITION, below};
+use reference::net::{Net, TRANSITION};
 use reference::pnml_definition::{Arc, Drawing, HEAD, OPTIONAL, TAIL};
 
-use crate::encode::{self, Transition};
-use crate::firings::firing_in;
+use crate::nets::{LentNet, action, sized, small};
 use crate::prng::Prng;
 use crate::rooms::room;
-use crate::settings::{optional, setting};
 
 /// A net with its marking, and the length of the room.
 #[derive(Clone, Debug, PartialEq, Eq)]
@@ -27,56 +25,24 @@ pub struct ReadCase {
 
 /// Small nets, some of them faulty, and nets of all sizes.
 pub fn write_case(rng: &mut Prng) -> WriteCase {
-    let mut case = match rng.percent(60) {
+    let lent = match rng.percent(60) {
         true => small(rng),
-        false => sized(rng),
+        false => any_size(rng),
     };
-    let good = Net::decode(case.places, &case.net).ok();
-    let length = good.map_or(500, |net| Drawing::of(&net, case.marking).text().len());
-    case.room = room(rng, length, TRANSITION);
-    case
-}
-
-fn small(rng: &mut Prng) -> WriteCase {
-    let setting = setting(rng);
-    let firing = firing_in(rng, &setting);
+    let good = Net::decode(lent.places, &lent.net).ok();
+    let length = good.map_or(500, |net| Drawing::of(&net, lent.marking).text().len());
     WriteCase {
-        places: firing.places,
-        marking: firing.marking,
-        net: firing.net,
-        room: 0,
+        places: lent.places,
+        marking: lent.marking,
+        net: lent.net,
+        room: room(rng, length, TRANSITION),
     }
 }
 
-/// A net of any size, rarely with most of the arcs that it can have.
-fn sized(rng: &mut Prng) -> WriteCase {
+/// A net of any size.
+fn any_size(rng: &mut Prng) -> LentNet {
     let (places, transitions) = (size(rng), size(rng));
-    let all = below(places as u32);
-    let density = match rng.below(200) {
-        0 => 4,
-        1..=10 => 3,
-        _ => rng.below(3),
-    };
-    let set = |rng: &mut Prng| match rng.below(density + 1) {
-        0 => 0,
-        1 => 1 << rng.below(places),
-        2 => rng.number() & rng.number() & rng.number() & rng.number() & all,
-        3 => rng.number() & all,
-        _ => all,
-    };
-    let list: Vec<Transition> = (0..transitions)
-        .map(|_| Transition {
-            pre: set(rng),
-            post: set(rng),
-            action: action(rng),
-        })
-        .collect();
-    WriteCase {
-        places: places as u32,
-        marking: rng.number() & all,
-        net: encode::marked_net(&list, optional(rng, transitions)),
-        room: 0,
-    }
+    sized(rng, places, transitions)
 }
 
 /// A number of places or transitions, often where the decimals grow.
@@ -84,18 +50,6 @@ fn size(rng: &mut Prng) -> usize {
     match rng.percent(60) {
         true => rng.pick(&[1, 1, 2, 3, 9, 10, 11, 12, 63, 64]),
         false => rng.between(1, 64),
-    }
-}
-
-/// An action of any number of digits.
-fn action(rng: &mut Prng) -> u16 {
-    match rng.below(4) {
-        0 => rng.pick(&[0, 9, 10, 99, 100, 999, 1000, 9999, 10_000, 65_535]),
-        1 => rng.number() as u16,
-        _ => {
-            let above = rng.pick(&[10, 100, 1000, 10_000]);
-            rng.below(above) as u16
-        }
     }
 }
 
@@ -123,12 +77,12 @@ fn drawing(rng: &mut Prng) -> Drawing {
     if rng.percent(30) {
         return any_drawing(rng);
     }
-    let case = match rng.percent(70) {
+    let lent = match rng.percent(70) {
         true => small(rng),
-        false => sized(rng),
+        false => any_size(rng),
     };
-    match Net::decode(case.places, &case.net) {
-        Ok(net) => Drawing::of(&net, case.marking),
+    match Net::decode(lent.places, &lent.net) {
+        Ok(net) => Drawing::of(&net, lent.marking),
         Err(_) => any_drawing(rng),
     }
 }

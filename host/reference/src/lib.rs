@@ -2,13 +2,15 @@
 //! category files, the tree check, the program's line, and the meaning of
 //! formulas on the graph of reachable markings. Of document 02: nets as PNML
 //! text (F-1), optional transitions (F-4), the tree of a formula without "until"
-//! (F-5), the end of borrowed labels (F-6), and why a step is not enabled (F-7).
+//! (F-5), the end of borrowed labels (F-6), why a step is not enabled (F-7), and
+//! two nets side by side (F-8).
 
 pub mod bytes;
 pub mod category;
 pub mod check;
 pub mod converted;
 pub mod formula;
+pub mod joined;
 pub mod meaning;
 pub mod net;
 pub mod pnml;

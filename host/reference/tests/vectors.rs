@@ -1,6 +1,7 @@
 //! The reference agrees with every line of the vectors.
 
 use reference::check::{NODE, Verdict};
+use reference::joined::{Half, join};
 use reference::written::{Written, write};
 use reference::{category, check, converted, net, pnml, pnml_definition};
 
@@ -182,6 +183,29 @@ fn converted_files() {
             Err(refusal) => {
                 let nothing = written(&room, 0);
                 format!("{} {} 0 {nothing}", refusal.number, refusal.record)
+            }
+        }
+    });
+}
+
+#[test]
+fn joint_nets() {
+    agree("joined.txt", 160, |fields| {
+        let nets = [bytes(&fields[2]), bytes(&fields[5])];
+        let [first, second] = [0, 1].map(|i| Half {
+            places: fields[3 * i].parse().expect("places"),
+            marking: fields[3 * i + 1].parse().expect("a marking"),
+            net: &nets[i],
+        });
+        let mut room = room(&fields[6]);
+        match join(first, second, &mut room) {
+            Ok(joined) => {
+                let net = written(&room, joined.length);
+                format!("0 0 {} {} {net}", joined.places, joined.marking)
+            }
+            Err(refusal) => {
+                let nothing = written(&room, 0);
+                format!("{} {} 0 0 {nothing}", refusal.number, refusal.record)
             }
         }
     });

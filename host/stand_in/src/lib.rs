@@ -1,7 +1,7 @@
 //! The C functions of documents 01 and 02 over the reference. It stands in for the archive
 //! while the tests themselves are tried out, and is no part of the gate.
 
-use reference::{category, check, converted, net, pnml, written};
+use reference::{category, check, converted, joined, net, pnml, written};
 
 /// # Safety
 /// The pointer is that of `len` readable bytes.
@@ -224,6 +224,49 @@ pub unsafe extern "C" fn desk_convert_categories(
     unsafe {
         *record = at;
         *rewritten = count;
+    }
+    number
+}
+
+/// # Safety
+/// See `include/desk.h`.
+#[unsafe(no_mangle)]
+pub unsafe extern "C" fn desk_join(
+    first_places: u32,
+    first_marking: u64,
+    first: *const u8,
+    first_len: usize,
+    second_places: u32,
+    second_marking: u64,
+    second: *const u8,
+    second_len: usize,
+    net: *mut u8,
+    net_len: usize,
+    record: *mut u64,
+    places: *mut u32,
+    marking: *mut u64,
+    length: *mut u64,
+) -> u32 {
+    let first = joined::Half {
+        places: first_places,
+        marking: first_marking,
+        net: unsafe { bytes(first, first_len) },
+    };
+    let second = joined::Half {
+        places: second_places,
+        marking: second_marking,
+        net: unsafe { bytes(second, second_len) },
+    };
+    let answer = joined::join(first, second, unsafe { room(net, net_len) });
+    let (number, at, joined) = match answer {
+        Ok(joined) => (0, 0, joined),
+        Err(refusal) => (refusal.number, refusal.record, joined::Joined::default()),
+    };
+    unsafe {
+        *record = at;
+        *places = joined.places;
+        *marking = joined.marking;
+        *length = joined.length as u64;
     }
     number
 }
