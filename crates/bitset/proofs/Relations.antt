@@ -12,7 +12,7 @@ use lib.Pow.{pow-pos, pow-mono, shl-exact}
 use lib.Dec.{eqb, ltb}
 use borrow.Author.Tests.{eqb-true, eq-eqb, eqb-false, lt-ltb, le-ltb, ltb-true, ltb-false, not-true}
 use Rattle.bitset.specs.Sets.{member, subset, disjoint, difference, union, within, collect, add, beyond}
-use Rattle.tables.proofs.Tests.{passed, and-left, and-right, and-intro, same-test, failed}
+use Rattle.tables.proofs.Tests.{passed, and-left, and-right, and-intro, either, same-test, failed}
 use Rattle.bitset.proofs.Membership.{member-and, member-union, member-difference, and-complement, member-empty, member-bit, member-shift, set-ext, some-member}
 
 -- ---- subset
@@ -97,6 +97,11 @@ pub within-wide : (w n s : ℕ) → s < 2 ^ w → w ≤ n → within n s ≡ tru
 unfolding within
 within-wide w n s p q = lt-ltb s (2 ^ n) (lt-of-lt-of-le p (pow-mono q))
 
+-- and a set within n is within more
+pub within-more : (n w s : ℕ) → within n s ≡ true → within (n + w) s ≡ true
+unfolding within
+within-more n w s h = within-wide n (n + w) s (ltb-true s (2 ^ n) h) (omega arith)
+
 -- a member of a set of w digits is below w
 pub member-lt : (w s : ℕ) → s < 2 ^ w → (k : ℕ) → member s k ≡ true → k < w
 unfolding member
@@ -121,6 +126,15 @@ member-within n s h = by (passed (eqb (s / 2 ^ n) 0))
         let r : (k : ℕ) × (member (s / 2 ^ n) k ≡ true) = some-member (s / 2 ^ n) (eqb-false (s / 2 ^ n) 0 e) in
         let l : n + r .0 < n = h (n + r .0) (sym (member-shift s n (r .0)) ∙ r .1) in
         absurd (omega arith)
+
+-- a union of two sets within n
+pub union-within : (n a b : ℕ) → within n a ≡ true → within n b ≡ true → within n (union a b) ≡ true
+union-within n a b p q =
+    member-within n (union a b) (λ k h. by k (either (member a k) (member b k) (sym (member-union a b k) ∙ h)))
+  where
+    by : (k : ℕ) → (member a k ≡ true) ⊎ (member b k ≡ true) → k < n
+    by k (inl e) = within-member n a p k e
+    by k (inr e) = within-member n b q k e
 
 -- ---- collected sets
 

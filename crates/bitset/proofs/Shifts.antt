@@ -17,19 +17,20 @@ use Rattle.bitset.proofs.Relations.{subset-member, member-subset, disjo
 
 -- ---- members
 
+-- one place higher is twice the number
+shifted-suc : (n s : ℕ) → shifted (suc n) s ≡ shifted n s + shifted n s
+unfolding shifted
+shifted-suc n s = ap (λ (x : ℕ). s * x) (two-pow-succ n) ∙ mul-add s (2 ^ n) (2 ^ n)
+
 -- none is below n
 pub shifted-low : (n s k : ℕ) → k < n → member (shifted n s) k ≡ false
-unfolding shifted
 shifted-low zero s k h = absurd (not-suc-le-zero h)
-shifted-low (suc n) s zero h = member-zero (s * 2 ^ suc n) ∙ ap (λ (x : ℕ). eqb x 1) even
-  where
-    even : s * 2 ^ suc n % 2 ≡ 0
-    even = let e : s * 2 ^ suc n ≡ s * 2 ^ n + s * 2 ^ n = ap (λ (x : ℕ). s * x) (two-pow-succ n) ∙ mul-add s (2 ^ n) (2 ^ n) in omega arith
+shifted-low (suc n) s zero h =
+    let even : shifted (suc n) s % 2 ≡ 0 = omega (arith, shifted-suc n s) in
+    member-zero (shifted (suc n) s) ∙ ap (λ (x : ℕ). eqb x 1) even
 shifted-low (suc n) s (suc k) h =
-    member-suc (s * 2 ^ suc n) k ∙ ap (λ (x : ℕ). member x k) half ∙ shifted-low n s k (le-of-suc-le-suc h)
-  where
-    half : s * 2 ^ suc n / 2 ≡ s * 2 ^ n
-    half = let e : s * 2 ^ suc n ≡ s * 2 ^ n + s * 2 ^ n = ap (λ (x : ℕ). s * x) (two-pow-succ n) ∙ mul-add s (2 ^ n) (2 ^ n) in omega arith
+    let half : shifted (suc n) s / 2 ≡ shifted n s = omega (arith, shifted-suc n s) in
+    member-suc (shifted (suc n) s) k ∙ ap (λ (x : ℕ). member x k) half ∙ shifted-low n s k (le-of-suc-le-suc h)
 
 -- from n on they are those of s
 pub shifted-high : (n s k : ℕ) → member (shifted n s) (n + k) ≡ member s k

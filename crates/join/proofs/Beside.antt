@@ -1,14 +1,13 @@
 -- A marking of each half as one of the joint net: its members, and a transition of one half there. For all sets of places. Assumes nothing.
 use mathlib.Core.Path.{_≡_, refl, sym, ap, ap₂, _∙_}
 use mathlib.Core.Bool.{Bool, true, false, not, _&&_, _||_, or-false}
-use mathlib.Core.Logic.{_⊎_, inl, inr}
 use Prim.Native.Nat.{ℕ, _+_, _-_, _/_, _^_, _≤_, _<_}
 use native.Mathlib.Omega.{arith}
 use borrow.Author.Tests.{lt-ltb}
-use Rattle.tables.proofs.Tests.{either, failed}
+use Rattle.tables.proofs.Tests.{failed}
 use Rattle.bitset.specs.Sets.{member, disjoint, difference, union, within, shifted, collect}
 use Rattle.bitset.proofs.Membership.{member-shift, member-union}
-use Rattle.bitset.proofs.Relations.{within-member, member-within, collect-lt, member-collect}
+use Rattle.bitset.proofs.Relations.{within-member, member-within, within-more, union-within, collect-lt, member-collect}
 use Rattle.bitset.proofs.Shifts.{split-ext, shifted-low, shifted-high, shifted-member, shifted-union, shifted-difference, shifted-subset, shifted-disjoint, within-shifted}
 use Rattle.net.specs.Step.{enabledBy, firedBy}
 use Rattle.net.proofs.Independence.{enabledBy-agree, member-firedBy}
@@ -37,13 +36,7 @@ module _ (n : ℕ) where
 
   pub beside-within : (w a b : ℕ) → within n a ≡ true → within w b ≡ true → within (n + w) (beside n a b) ≡ true
   unfolding beside
-  beside-within w a b p q =
-      member-within (n + w) (union a (shifted n b))
-      (λ k h. by k (either (member a k) (member (shifted n b) k) (sym (member-union a (shifted n b) k) ∙ h)))
-    where
-      by : (k : ℕ) → (member a k ≡ true) ⊎ (member (shifted n b) k ≡ true) → k < n + w
-      by k (inl e) = let l : k < n = within-member n a p k e in omega arith
-      by k (inr e) = within-member (n + w) (shifted n b) (within-shifted n w b q) k e
+  beside-within w a b p q = union-within (n + w) a (shifted n b) (within-more n w a p) (within-shifted n w b q)
 
   -- each marking of the joint net is one of each half
   pub beside-parts : (w m : ℕ) → within (n + w) m ≡ true → (a : ℕ) × (b : ℕ) × (within n a ≡ true) × (within w b ≡ true) × (m ≡ beside n a b)
@@ -70,15 +63,10 @@ module _ (n : ℕ) where
   -- ---- a transition of the first half, whose sets are within n
 
   module _ (pre post : ℕ) (p : within n pre ≡ true) (q : within n post ≡ true) where
-    touched-within : (k : ℕ) → member (union pre post) k ≡ true → k < n
-    touched-within k h = by (either (member pre k) (member post k) (sym (member-union pre post k) ∙ h))
-      where
-        by : (member pre k ≡ true) ⊎ (member post k ≡ true) → k < n
-        by (inl e) = within-member n pre p k e
-        by (inr e) = within-member n post q k e
-
     pub low-enabled : (a b : ℕ) → enabledBy pre post (beside n a b) ≡ enabledBy pre post a
-    low-enabled a b = enabledBy-agree pre post (beside n a b) a (λ k h. beside-low a b k (touched-within k h))
+    low-enabled a b =
+        enabledBy-agree pre post (beside n a b) a
+        (λ k h. beside-low a b k (within-member n (union pre post) (union-within n pre post p q) k h))
 
     pub low-fired : (a b : ℕ) → firedBy pre post (beside n a b) ≡ beside n (firedBy pre post a) b
     low-fired a b = split-ext n (firedBy pre post (beside n a b)) (beside n (firedBy pre post a) b) low high

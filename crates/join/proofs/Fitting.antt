@@ -31,20 +31,25 @@ few-records h e = half-has h e .most
 pub few-places : (f s : Marked) → halfFault f ≡ noFault → halfFault s ≡ noFault → f .places + s .places ≤ 128
 few-places f s p q = omega (arith, half-has f p .places-most, half-has s q .places-most)
 
+-- without 15 both sums are at most 64
+pub size-test : (f s : Marked) → sizeFault f s .number ≡ 0
+    → (leb (f .places + s .places) 64 && leb (transitions (f .bytes) + transitions (s .bytes)) 64) ≡ true
+unfolding sizeFault
+size-test f s = by (leb (f .places + s .places) 64 && leb (transitions (f .bytes) + transitions (s .bytes)) 64)
+  where
+    by : (b : Bool) → cond b noFault (fault 15 0) .number ≡ 0 → b ≡ true
+    by true q = refl
+    by false q = absurd (let z : _≡_ {A = ℕ} 15 0 = q in omega arith)
+
 module _ (f s : Marked) (e : sizeFault f s ≡ noFault) where
-  size-test : (leb (f .places + s .places) 64 && leb (transitions (f .bytes) + transitions (s .bytes)) 64) ≡ true
-  unfolding sizeFault
-  size-test = by _ e
-    where
-      by : (b : Bool) → cond b noFault (fault 15 0) ≡ noFault → b ≡ true
-      by true q = refl
-      by false q = absurd (let z : _≡_ {A = ℕ} 15 0 = ap (λ (x : Fault). x .number) q in omega arith)
+  sums : (leb (f .places + s .places) 64 && leb (transitions (f .bytes) + transitions (s .bytes)) 64) ≡ true
+  sums = size-test f s (ap (λ (x : Fault). x .number) e)
 
   pub places-most : f .places + s .places ≤ 64
-  places-most = leb-true _ 64 (and-left (leb (f .places + s .places) 64) (leb (transitions (f .bytes) + transitions (s .bytes)) 64) size-test)
+  places-most = leb-true _ 64 (and-left (leb (f .places + s .places) 64) (leb (transitions (f .bytes) + transitions (s .bytes)) 64) sums)
 
   pub count-most : transitions (f .bytes) + transitions (s .bytes) ≤ 64
-  count-most = leb-true _ 64 (and-right (leb (f .places + s .places) 64) (leb (transitions (f .bytes) + transitions (s .bytes)) 64) size-test)
+  count-most = leb-true _ 64 (and-right (leb (f .places + s .places) 64) (leb (transitions (f .bytes) + transitions (s .bytes)) 64) sums)
 
 module _ (f s : Marked) (p : halfFault f ≡ noFault) (q : halfFault s ≡ noFault) (e : sizeFault f s ≡ noFault) where
   second : Loaded (s .places) (s .marking) (s .bytes)

@@ -5,10 +5,9 @@ use mathlib.Core.Logic.{_⊎_, inl, inr}
 use Prim.Native.Nat.{ℕ, _+_, _-_, _^_, _≤_, _<_}
 use native.Mathlib.Omega.{arith}
 use lib.Dec.{eqb}
-use borrow.Author.Tests.{ltb-true}
 use Rattle.tables.proofs.Below.{lt-or-ge}
 use Rattle.bitset.specs.Sets.{member, within, shifted}
-use Rattle.bitset.proofs.Relations.{within-wide}
+use Rattle.bitset.proofs.Relations.{within-more}
 use Rattle.bitset.proofs.Shifts.{within-shifted}
 use Rattle.net.specs.Step.{preOf, postOf, actionOf}
 use Rattle.net.specs.Table.{preAt, postAt, markAt, spareAt, optionalAt, transitions, tableSized}
@@ -20,10 +19,6 @@ use Rattle.join.specs.Answer.{halfFault, sizeFault}
 use Rattle.join.proofs.Fitting as fitting
 use Rattle.join.proofs.Beside.{beside-within}
 use Rattle.join.proofs.Reading as reading
-
--- a set within some places is within more
-wider : (p q s : ℕ) → within p s ≡ true → within (p + q) s ≡ true
-wider p q s h = within-wide p (p + q) s (unfold within in ltb-true s (2 ^ p) h) (omega arith)
 
 module _ (f s : Marked) (p : halfFault f ≡ noFault) (q : halfFault s ≡ noFault) (e : sizeFault f s ≡ noFault) where
   -- what the halves have
@@ -82,12 +77,12 @@ module _ (f s : Marked) (p : halfFault f ≡ noFault) (q : halfFault s ≡ noFau
         least = omega (arith, joint-count, first .least);
         most = omega (arith, joint-count, fitting.count-most f s e);
         pre = cases (λ t. within (f .places + s .places) (preAt (joint f s .bytes) t) ≡ true)
-            (λ t h. ap (within (f .places + s .places)) (reading.first-pre f s (first .whole) t h) ∙ wider (f .places) (s .places) _ (first .pre t h))
+            (λ t h. ap (within (f .places + s .places)) (reading.first-pre f s (first .whole) t h) ∙ within-more (f .places) (s .places) _ (first .pre t h))
             (λ u h.
             ap (within (f .places + s .places)) (reading.second-pre f s (first .whole) u h (pre-fits u h))
             ∙ within-shifted (f .places) (s .places) _ (second .pre u h));
         post = cases (λ t. within (f .places + s .places) (postAt (joint f s .bytes) t) ≡ true)
-            (λ t h. ap (within (f .places + s .places)) (reading.first-post f s (first .whole) t h) ∙ wider (f .places) (s .places) _ (first .post t h))
+            (λ t h. ap (within (f .places + s .places)) (reading.first-post f s (first .whole) t h) ∙ within-more (f .places) (s .places) _ (first .post t h))
             (λ u h.
             ap (within (f .places + s .places)) (reading.second-post f s (first .whole) u h (post-fits u h))
             ∙ within-shifted (f .places) (s .places) _ (second .post u h));

@@ -9,10 +9,9 @@ use native.Mathlib.Omega.{arith}
 use lib.Dec.{eqb, ltb}
 use borrow.Author.Tests.{le-ltb, ltb-true, ltb-false, eq-eqb, eqb-true, ne-eqb}
 use Rattle.tables.proofs.Below.{lt-or-ge}
-use Rattle.tables.proofs.Tests.{and-left, and-right, if-true, if-false, either, passed, same-test}
-use Rattle.bitset.specs.Sets.{member, disjoint, union, within, shifted}
-use Rattle.bitset.proofs.Membership.{member-union}
-use Rattle.bitset.proofs.Relations.{within-member, member-within}
+use Rattle.tables.proofs.Tests.{and-left, and-right, if-true, if-false, passed, same-test}
+use Rattle.bitset.specs.Sets.{disjoint, union, within, shifted}
+use Rattle.bitset.proofs.Relations.{union-within}
 use Rattle.bitset.proofs.Shifts.{shifted-union, shifted-disjoint, apart-shifted}
 use Rattle.net.specs.declared.Net.{Net}
 use Rattle.net.specs.Step.{preOf, postOf, enabledBy, firedBy, conflictBy, enabled, fired, touched, conflict}
@@ -102,13 +101,7 @@ module _ (f s : Marked) (p : halfFault f ≡ noFault) (q : halfFault s ≡ noFau
 
   touched-in : (t : ℕ) → t < n → within (f .places) (touched F t) ≡ true
   unfolding touched
-  touched-in t h =
-      member-within (f .places) (union (preOf F t) (postOf F t))
-      (λ k l. by k (either (member (preOf F t) k) (member (postOf F t) k) (sym (member-union (preOf F t) (postOf F t) k) ∙ l)))
-    where
-      by : (k : ℕ) → (member (preOf F t) k ≡ true) ⊎ (member (postOf F t) k ≡ true) → k < f .places
-      by k (inl x) = within-member (f .places) (preOf F t) (pre-in f s p q e t h) k x
-      by k (inr x) = within-member (f .places) (postOf F t) (post-in f s p q e t h) k x
+  touched-in t h = union-within (f .places) (preOf F t) (postOf F t) (pre-in f s p q e t h) (post-in f s p q e t h)
 
   across : (t u : ℕ) → t < n → u < m → conflict J t (n + u) ≡ false
   unfolding conflict conflictBy

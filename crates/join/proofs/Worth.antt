@@ -1,16 +1,17 @@
 -- Two nets that are joined stand side by side. Assumes nothing.
 use mathlib.Core.Path.{_≡_, refl, sym}
-use mathlib.Core.Bool.{Bool, true, false, cond, _&&_}
-use Prim.Native.Nat.{ℕ, _+_}
-use native.Mathlib.Omega.{arith}
-use lib.Dec.{eqb, leb}
-use borrow.Author.Tests.{eqb-true, eqb-false}
-use Rattle.net.specs.Table.{transitions, netOf}
+use mathlib.Core.Bool.{Bool, true, false, cond}
+use lib.Dec.{eqb}
+use borrow.Author.Tests.{eqb-true}
+use Rattle.tables.proofs.Tests.{if-true}
+use Rattle.tables.proofs.Scans.{both-passed}
+use Rattle.net.specs.Table.{netOf}
 use Rattle.net.specs.Answer.{Fault, noFault, fault, orElse}
-use Rattle.net.proofs.Loaded.{load-has, has-load}
+use Rattle.net.proofs.Loaded.{faultless}
 use Rattle.join.specs.Joint.{Marked, joint}
 use Rattle.join.specs.Answer.{granted, refuse, halfFault, sizeFault, roomFault, joinFault, joinAnswer}
 use Rattle.join.specs.Theorem.{SideBySide, JoinedStand}
+use Rattle.join.proofs.Fitting.{size-test}
 use Rattle.join.proofs.Beside.{beside-low, beside-high, beside-within, beside-parts}
 use Rattle.join.proofs.Halves.{joint-loads, action-first, action-second, optional-first, optional-second}
 use Rattle.join.proofs.Steps as steps
@@ -44,32 +45,20 @@ stands f s p q e =
 
 -- ---- granted
 
--- one fault after another is none only where both are
-none-of : (a b : Fault) → orElse a b .number ≡ 0 → (a .number ≡ 0) × (b .number ≡ 0)
-none-of a b h = by (eqb (a .number) 0) refl h
-  where
-    by : (x : Bool) → eqb (a .number) 0 ≡ x → cond x b a .number ≡ 0 → (a .number ≡ 0) × (b .number ≡ 0)
-    by true z h = (eqb-true (a .number) 0 z, h)
-    by false z h = absurd (eqb-false (a .number) 0 z h)
-
 half-clear : (h : Marked) → halfFault h .number ≡ 0 → halfFault h ≡ noFault
-half-clear h e = sym (has-load (h .places) (h .marking) (h .bytes) (load-has (h .places) (h .marking) (h .bytes) e))
+half-clear h e = sym (faultless (h .places) (h .marking) (h .bytes) e)
 
 size-clear : (f s : Marked) → sizeFault f s .number ≡ 0 → sizeFault f s ≡ noFault
 unfolding sizeFault
-size-clear f s = by (leb (f .places + s .places) 64 && leb (transitions (f .bytes) + transitions (s .bytes)) 64)
-  where
-    by : (x : Bool) → cond x noFault (fault 15 0) .number ≡ 0 → cond x noFault (fault 15 0) ≡ noFault
-    by true h = refl
-    by false h = absurd (let z : _≡_ {A = ℕ} 15 0 = h in omega arith)
+size-clear f s h = if-true _ noFault (fault 15 0) (size-test f s h)
 
 -- nets that are joined stand side by side
 pub worth : JoinedStand
 unfolding joinAnswer joinFault
 worth f s room h =
-    let a = none-of (halfFault f) (orElse (halfFault s) (orElse (sizeFault f s) (roomFault f s room))) none in
-    let b = none-of (halfFault s) (orElse (sizeFault f s) (roomFault f s room)) (a .1) in
-    let c = none-of (sizeFault f s) (roomFault f s room) (b .1) in
+    let a = both-passed (halfFault f) (orElse (halfFault s) (orElse (sizeFault f s) (roomFault f s room))) none in
+    let b = both-passed (halfFault s) (orElse (sizeFault f s) (roomFault f s room)) (a .1) in
+    let c = both-passed (sizeFault f s) (roomFault f s room) (b .1) in
     stands f s (half-clear f (a .0)) (half-clear s (b .0)) (size-clear f s (c .0))
   where
     by : (x : Fault) (y : Bool) → eqb (x .number) 0 ≡ y → cond y (granted (joint f s) room) (refuse x room) .found .number ≡ 0 → x .number ≡ 0

@@ -1,15 +1,15 @@
--- The check of a table, record by record: what each way through the code has found fixes the fault. For any record size and any test.
--- Assumes nothing.
+-- The check of a table, record by record: what each way through the code has found fixes the fault. For any record size and any test. Then one
+-- check after another. Assumes nothing.
 use mathlib.Core.Path.{_≡_, refl, sym, ap, _∙_}
 use mathlib.Core.Bool.{Bool, true, false, cond}
 use Prim.Native.Nat.{ℕ, _*_, _/_, _≤_, _<_}
 use native.Mathlib.Nat.{le-trans, le-of-eq, div-mul-le-self}
-use lib.Dec.{ltb}
-use borrow.Author.Tests.{lt-ltb, le-ltb, ltb-false}
+use lib.Dec.{eqb, ltb}
+use borrow.Author.Tests.{lt-ltb, le-ltb, ltb-false, eqb-true, eqb-false}
 use Rattle.tables.specs.declared.RecordCount.the-variants.{Whole, Refused}
 use Rattle.tables.specs.Lists.{first}
 use Rattle.tables.specs.Sizes.{sized, recordsOf}
-use Rattle.tables.specs.Faults.{noFault, fault, scanFault}
+use Rattle.tables.specs.Faults.{Fault, noFault, fault, orElse, scanFault}
 use Rattle.tables.proofs.Counts.{whole-sized, whole-count, refused-sized}
 use Rattle.tables.proofs.Entries.{first-ext, first-none, before-first}
 use Rattle.tables.proofs.Tests.{if-true, if-false}
@@ -71,3 +71,19 @@ pub scan-ext : (sn rn size least most : ℕ) (bad worse : ℕ → Bool) (len : �
 unfolding scanFault
 scan-ext sn rn size least most bad worse len h =
     ap (λ (b : ℕ). cond (sized size least most len) (cond (ltb b (len / size)) (fault rn b) noFault) (fault sn 0)) (first-ext bad worse (len / size) h)
+
+-- ---- one check after another
+
+pub or-first : (f g h : Fault) → f ≡ g → eqb (f .number) 0 ≡ false → f ≡ orElse g h
+or-first f g h e z = sym (ap (λ x. orElse x h) (sym e) ∙ if-false _ _ _ z)
+
+pub or-second : (g h x : Fault) → noFault ≡ g → x ≡ h → x ≡ orElse g h
+or-second g h x e q = q ∙ ap (λ y. orElse y h) e
+
+-- neither has a fault
+pub both-passed : (f g : Fault) → orElse f g .number ≡ 0 → (f .number ≡ 0) × (g .number ≡ 0)
+both-passed f g e = by (eqb (f .number) 0) refl e
+  where
+    by : (b : Bool) → eqb (f .number) 0 ≡ b → cond b g f .number ≡ 0 → (f .number ≡ 0) × (g .number ≡ 0)
+    by true q e = (eqb-true (f .number) 0 q, e)
+    by false q e = absurd (eqb-false (f .number) 0 q e)
