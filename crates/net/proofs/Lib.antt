@@ -5,4 +5,6 @@ pub mod Loaded
 pub mod Why
 pub mod Independence
 pub mod Runs
+pub mod Swaps
+pub mod Dependent
 pub mod Urgent

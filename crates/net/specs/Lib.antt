@@ -4,3 +4,4 @@ pub mod Table
 pub mod Answer
 pub mod Why
 pub mod Sequence
+pub mod Swaps

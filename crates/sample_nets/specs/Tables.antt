@@ -29,6 +29,11 @@ unfoldable pub optionalR : ℕ → List ℕ
 unfolding bytes netR
 optionalR t = sets netR (t * 24 + 18) (bytes 1 1)
 
+-- three independent transitions: t0 1→2, t1 4→8, t2 16→32, no actions
+unfoldable pub netThree : List ℕ
+unfolding transition
+netThree = transition 1 2 0 ++ transition 4 8 0 ++ transition 16 32 0
+
 -- the set of the transitions of a table's net in conflict with t; empty where the table is refused (2 or 3) or has no t
 unfoldable pub conflictsIn : (places : ℕ) (table : List ℕ) (t : ℕ) → ℕ
 conflictsIn places table t =

@@ -56,6 +56,17 @@ pub fn net_optional(t: u8) -> [u8; 72]
     table
 }
 
+// A net of three independent transitions.
+pub fn net_three() -> [u8; 72]
+    ensures { λ r. ⌜ r ≡ tables.netThree ⌝ }
+{
+    let mut table = [0u8; 72];
+    put_transition(&mut table, 0, 1, 2, 0);
+    put_transition(&mut table, 1, 4, 8, 0);
+    put_transition(&mut table, 2, 16, 32, 0);
+    table
+}
+
 // The set of the transitions in conflict with t, found in the decoded table; empty where the table is refused or has no t.
 pub fn conflicts(places: u32, net: &[u8], t: u32) -> u64
     ensures { λ r. ⌜ r ≡ tables.conflictsIn places (now (net .entry)) t ⌝ }

@@ -11,7 +11,7 @@ use Rattle.net.specs.Answer.{Answer}
 use Rattle.walk.specs.declared.Walk.{Walk}
 use Rattle.walk.specs.Calls.{loadedAnswer, readMarking, readCount, readNext}
 use Rattle.walk.specs.History.{Call, load, fire, reset, answered, called}
-use Rattle.sample_nets.specs.Tables.{transition, netR, optionalR}
+use Rattle.sample_nets.specs.Tables.{transition, netR, optionalR, netThree}
 use Rattle.sample_walks.specs.declared.Start.{Start}
 use Rattle.sample_walks.specs.Samples.{started, callOf, callAt, calledTo, after, told, seen}
 
@@ -40,10 +40,14 @@ pub loads-optional : {n : ℕ} → n ≡ 68 → callOf n ≡ load 3 3 (optionalR
 unfolding callOf
 loads-optional e = ap callOf e
 
--- a number that is none of the others fires
-pub fires : (n : ℕ) → (n ≡ 64 → ⊥) → (n ≡ 65 → ⊥) → (n ≡ 66 → ⊥) → (n ≡ 67 → ⊥) → (n ≡ 68 → ⊥) → callOf n ≡ fire n
+pub loads-three : {n : ℕ} → n ≡ 69 → callOf n ≡ load 6 21 netThree
 unfolding callOf
-fires n a b c d e = simp (ne-eqb n 64 a, ne-eqb n 65 b, ne-eqb n 66 c, ne-eqb n 67 d, ne-eqb n 68 e)
+loads-three e = ap callOf e
+
+-- a number that is none of the others fires
+pub fires : (n : ℕ) → (n ≡ 64 → ⊥) → (n ≡ 65 → ⊥) → (n ≡ 66 → ⊥) → (n ≡ 67 → ⊥) → (n ≡ 68 → ⊥) → (n ≡ 69 → ⊥) → callOf n ≡ fire n
+unfolding callOf
+fires n a b c d e f = simp (ne-eqb n 64 a, ne-eqb n 65 b, ne-eqb n 66 c, ne-eqb n 67 d, ne-eqb n 68 e, ne-eqb n 69 f)
 
 -- one call more
 pub next-call : (w₀ w next : Walk) (list : List ℕ) (n i : ℕ) → n ≡ getD list i 0 → next ≡ called w (callOf n) → w ≡ calledTo w₀ list i

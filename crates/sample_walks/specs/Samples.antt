@@ -10,7 +10,7 @@ use Rattle.walk.specs.declared.Walk.{Walk}
 use Rattle.walk.specs.State.{empty}
 use Rattle.walk.specs.Calls.{loadWalk, loadedAnswer, readMarking, readCount, readNext}
 use Rattle.walk.specs.History.{Call, load, fire, reset, called, fireAll}
-use Rattle.sample_nets.specs.Tables.{transition, netR, optionalR}
+use Rattle.sample_nets.specs.Tables.{transition, netR, optionalR, netThree}
 use Rattle.sample_walks.specs.declared.Hand.{Hand}
 use Rattle.sample_walks.specs.declared.Seen.{Seen}
 use Rattle.sample_walks.specs.declared.Fields.{Fields}
@@ -54,7 +54,9 @@ started (ByHand h) = byHand h
 unfoldable pub callOf : ℕ → Call
 callOf n =
     cond (eqb n 64) reset
-    (cond (eqb n 65) (load 3 3 netR) (cond (eqb n 66) (load 3 8 netR) (cond (eqb n 67) (load 2 1 (transition 1 2 7)) (cond (eqb n 68) (load 3 3 (optionalR 1)) (fire n)))))
+    (cond (eqb n 65) (load 3 3 netR)
+    (cond (eqb n 66) (load 3 8 netR)
+    (cond (eqb n 67) (load 2 1 (transition 1 2 7)) (cond (eqb n 68) (load 3 3 (optionalR 1)) (cond (eqb n 69) (load 6 21 netThree) (fire n))))))
 
 -- call n of a list of calls by number; a firing of transition 0 past its end
 unfoldable pub callAt : List ℕ → ℕ → Call

@@ -9,7 +9,7 @@ use walk::Outcome;
 use walk::Walk;
 
 // A call is a number: below 64 it fires that transition; the others are these. R is loaded with 3 places, at marking 3 or beyond the
-// places, 1→2 with 2 places at marking 1, and R with t1 optional as R at marking 3.
+// places, 1→2 with 2 places at marking 1, R with t1 optional as R at marking 3, and three independent transitions with 6 places at marking 21.
 pub const RESET: u32 = 64;
 
 pub const LOAD_R: u32 = 65;
@@ -19,6 +19,8 @@ pub const LOAD_BEYOND: u32 = 66;
 pub const LOAD_FORWARD: u32 = 67;
 
 pub const LOAD_OPTIONAL: u32 = 68;
+
+pub const LOAD_THREE: u32 = 69;
 
 // The fields of a walk filled in by hand. Its other fields are net R's; `pre` is the pre set of t2, `post` the post set of t1.
 pub struct Hand {
@@ -69,6 +71,7 @@ fn call(walk: Walk, number: u32) -> Outcome
         LOAD_BEYOND => walk.load(3, 8, &net),
         LOAD_FORWARD => walk.load(2, 1, &sample_nets::transition(1, 2, 7)),
         LOAD_OPTIONAL => walk.load(3, 3, &sample_nets::net_optional(1)),
+        LOAD_THREE => walk.load(6, 21, &sample_nets::net_three()),
         _ => walk.fire(number),
     }
 }

@@ -29,7 +29,7 @@ fn firing_one(names: &[u8], i: u32, places: u32, marking: u64, pre: u64, post: u
 }
 
 // A transition of net R.
-fn firing_r(names: &[u8], i: u32, places: u32, marking: u64, t: u32) {
+pub(crate) fn firing_r(names: &[u8], i: u32, places: u32, marking: u64, t: u32) {
     let net = net_r();
     firing(names, i, places, marking, &net, t);
 }
@@ -45,7 +45,7 @@ fn firing_cut(names: &[u8], i: u32, size: usize) {
 }
 
 // Prints the transitions in conflict with t, by the decoded table.
-fn conflicts(names: &[u8], i: u32, places: u32, net: &[u8], t: u32) {
+pub(crate) fn conflicts(names: &[u8], i: u32, places: u32, net: &[u8], t: u32) {
     print_name(names, i);
     number(sample_nets::conflicts(places, net, t));
     end();

@@ -41,14 +41,14 @@ fn tell_seen(seen: Seen) {
 }
 
 // Prints what call n of a list answers after the calls before it.
-fn answer(names: &[u8], i: u32, start: Start, calls: &[u32], n: usize) {
+pub(crate) fn answer(names: &[u8], i: u32, start: Start, calls: &[u32], n: usize) {
     begin(names, i);
     tell(sample_walks::answer(start, calls, n));
     end();
 }
 
 // Prints what is read after the first n calls of a list.
-fn reading(names: &[u8], i: u32, start: Start, calls: &[u32], n: usize) {
+pub(crate) fn reading(names: &[u8], i: u32, start: Start, calls: &[u32], n: usize) {
     begin(names, i);
     tell_seen(sample_walks::reading(start, calls, n));
     end();
@@ -225,7 +225,7 @@ fn each_call(names: &[u8], i: u32, hand: Hand) {
 }
 
 // Net R with 3 places, started at 3, after one firing of t1; t0 and t2 are enabled.
-fn good() -> Hand {
+pub(crate) fn good() -> Hand {
     Hand {
         places: 3,
         transitions: 3,

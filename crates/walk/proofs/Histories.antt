@@ -22,6 +22,7 @@ use Rattle.net.specs.Answer.{fault, Answer, refuse, grant, disabled}
 use Rattle.net.specs.Sequence.{after}
 use Rattle.net.specs.Why.{Explained}
 use Rattle.net.proofs.Loops.{next-member, enabled-out}
+use Rattle.net.proofs.Runs.{after-first}
 use Rattle.net.proofs.Why.{other-explained, disabled-explained}
 use Rattle.walk.specs.declared.Walk.{Walk}
 use Rattle.walk.specs.State.{netIn, startedAt, movedTo, empty, storing, marked, StoresNext, loaded}
@@ -37,12 +38,9 @@ unfolding after
 after-more N m e t [] h p =
     let q : m ≡ e = cc in
     ap (λ (x : ℕ). cond (enabled N x t) (some (fired N x t)) none) q ∙ if-true _ _ none p
-after-more N m e t (u ∷ ts) h p = by (enabled N m u) (after-more N (fired N m u) e t ts) h
-  where
-    by : (b : Bool) → (after N (fired N m u) ts ≡ some e → enabled N e t ≡ true → after N (fired N m u) (ts ++ (t ∷ [])) ≡ some (fired N e t))
-        → cond b (after N (fired N m u) ts) none ≡ some e → cond b (after N (fired N m u) (ts ++ (t ∷ []))) none ≡ some (fired N e t)
-    by true ih q = ih q p
-    by false ih q = let z : _≡_ {A = ℕ} 0 1 = cc in absurd (omega arith)
+after-more N m e t (u ∷ ts) h p =
+    let q = after-first N m e u ts h in
+    if-true _ _ none (q .0) ∙ after-more N (fired N m u) e t ts (q .1) p
 
 -- ---- one call
 
@@ -240,15 +238,15 @@ module _ (w : Walk) (n : ℕ) where
 -- ---- firings one after the other
 
 -- what a granted firing leaves
-granted-walk : (w : Walk) (t : ℕ) → granted (fireAnswer w t) ≡ true → fireWalk w t ≡ movedTo w (fired (netIn w) (w .present) t) (w .count + 1)
+pub granted-walk : (w : Walk) (t : ℕ) → granted (fireAnswer w t) ≡ true → fireWalk w t ≡ movedTo w (fired (netIn w) (w .present) t) (w .count + 1)
 unfolding fireWalk
 granted-walk w t h = if-true _ _ w h
 
-granted-count : (w : Walk) (t : ℕ) → granted (fireAnswer w t) ≡ true → fireWalk w t .count ≡ w .count + 1
+pub granted-count : (w : Walk) (t : ℕ) → granted (fireAnswer w t) ≡ true → fireWalk w t .count ≡ w .count + 1
 unfolding movedTo
 granted-count w t h = ap (λ v. v .count) (granted-walk w t h)
 
-granted-after : (w : Walk) (t : ℕ) (ts : List ℕ) → granted (fireAnswer w t) ≡ true
+pub granted-after : (w : Walk) (t : ℕ) (ts : List ℕ) → granted (fireAnswer w t) ≡ true
     → after (netIn (fireWalk w t)) (fireWalk w t .present) ts ≡ after (netIn w) (fired (netIn w) (w .present) t) ts
 unfolding movedTo netIn
 granted-after w t ts h = ap (λ v. after (netIn v) (v .present) ts) (granted-walk w t h)
@@ -272,20 +270,15 @@ pub all-granted : (w : Walk) (e : ℕ) (ts : List ℕ) → loaded w ≡ true →
     → allGranted w ts ≡ true
 unfolding allGranted after
 all-granted w e [] h q l = refl
-all-granted w e (t ∷ ts) h q l = by (enabled (netIn w) (w .present) t) refl q (all-granted (fireWalk w t) e ts)
-  where
-    by : (b : Bool) → enabled (netIn w) (w .present) t ≡ b → cond b (after (netIn w) (fired (netIn w) (w .present) t) ts) none ≡ some e
-        → (loaded (fireWalk w t) ≡ true → after (netIn (fireWalk w t)) (fireWalk w t .present) ts ≡ some e → fireWalk w t .count + length ts ≤ 65535
-        → allGranted (fireWalk w t) ts ≡ true)
-        → (granted (fireAnswer w t) && allGranted (fireWalk w t) ts) ≡ true
-    by true p r ih =
-        let room : w .count + suc (length ts) ≤ 65535 = l in
-        let below : w .count < 65535 = omega arith in
-        let g = fire-grants w t h p below in
-        let one = granted-count w t g in
-        let most : fireWalk w t .count + length ts ≤ 65535 = omega (arith, one) in
-        and-intro (granted (fireAnswer w t)) (allGranted (fireWalk w t) ts) g (ih (fire-loaded w t g) (granted-after w t ts g ∙ r) most)
-    by false p r ih = let z : _≡_ {A = ℕ} 0 1 = cc in absurd (omega arith)
+all-granted w e (t ∷ ts) h q l =
+    let sum : w .count + suc (length ts) ≤ 65535 = l in
+    let below : w .count < 65535 = omega arith in
+    let p = after-first (netIn w) (w .present) e t ts q in
+    let g = fire-grants w t h (p .0) below in
+    let one = granted-count w t g in
+    let most : fireWalk w t .count + length ts ≤ 65535 = omega (arith, one) in
+    and-intro (granted (fireAnswer w t)) (allGranted (fireWalk w t) ts) g
+    (all-granted (fireWalk w t) e ts (fire-loaded w t g) (granted-after w t ts g ∙ p .1) most)
 
 -- ---- a granted load, and then firings that are all granted
 

@@ -2,3 +2,5 @@
 pub mod Walks
 pub mod Conditions
 pub mod Histories
+pub mod Swaps
+pub mod Room

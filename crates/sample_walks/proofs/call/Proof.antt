@@ -1,6 +1,6 @@
 -- `sample_walks::call` meets its contract. Assumes nothing.
 use Rattle.walk.specs.History as history
-use Rattle.sample_walks.proofs.Calling.{by-number, resets, loads-r, loads-beyond, loads-forward, loads-optional, fires}
+use Rattle.sample_walks.proofs.Calling.{by-number, resets, loads-r, loads-beyond, loads-forward, loads-optional, loads-three, fires}
 use borrow.Author.Needs.{needs}
 use Rattle.sample_walks.proofs.call.Statement.{statement}
 use Rattle.sample_walks.proofs.call.Tie as tie
@@ -41,6 +41,15 @@ slice-aggregate-load-4 c = search needs
 load-requires-4 : tie.Need-load-requires-4
 load-requires-4 c κs = search needs
 
+net-three-requires : tie.Need-net-three-requires
+net-three-requires c κs = search needs
+
+slice-aggregate-load-5 : tie.Need-slice-aggregate-load-5
+slice-aggregate-load-5 c = search needs
+
+load-requires-5 : tie.Need-load-requires-5
+load-requires-5 c κs = search needs
+
 fire-requires : tie.Need-fire-requires
 fire-requires c κs = search needs
 
@@ -70,8 +79,13 @@ returns-5 c = let net = c .before .before .net-optional .ensures in
 
 returns-6 : tie.Need-returns-6
 unfolding history.answered history.called
-returns-6 c = let no = c .before .match .rest in
-    by-number _ _ _ _ _ (fires _ (no .0 .0 .0 .0 .1) (no .0 .0 .0 .1) (no .0 .0 .1) (no .0 .1) (no .1)) (c .fire .ensures .0) (c .fire .ensures .1)
+returns-6 c = let net = c .before .before .net-three .ensures in
+    by-number _ _ _ _ _ (loads-three (c .before .before .before .match .keys6)) (rw net at (c .load5 .ensures .0)) (rw net at (c .load5 .ensures .1))
+
+returns-7 : tie.Need-returns-7
+unfolding history.answered history.called
+returns-7 c = let no = c .before .match .rest in
+    by-number _ _ _ _ _ (fires _ (no .0 .0 .0 .0 .0 .1) (no .0 .0 .0 .0 .1) (no .0 .0 .0 .1) (no .0 .0 .1) (no .0 .1) (no .1)) (c .fire .ensures .0) (c .fire .ensures .1)
 
 pub call-spec : {M : Type 1} → statement M
 call-spec =
@@ -89,10 +103,14 @@ call-spec =
     net-optional-requires
     slice-aggregate-load-4
     load-requires-4
+    net-three-requires
+    slice-aggregate-load-5
+    load-requires-5
     fire-requires
     returns
     returns-2
     returns-3
     returns-4
     returns-5
-    returns-6)
+    returns-6
+    returns-7)
