@@ -13,7 +13,6 @@ use native.Mathlib.Omega.{arith}
 use lib.ListN.{length, length-append}
 use borrow.Author.Tests.{ltb-true}
 use Rattle.tables.proofs.Tests.{and-left, and-right, and-intro, if-true, if-false}
-use Rattle.net.specs.declared.Net.{Net}
 use lib.Dec.{ltb}
 use Rattle.bitset.specs.Sets.{member, collect}
 use Rattle.net.specs.Step.{enabled, missing, occupied, fired, next}
@@ -22,7 +21,7 @@ use Rattle.net.specs.Answer.{fault, Answer, refuse, grant, disabled}
 use Rattle.net.specs.Sequence.{after}
 use Rattle.net.specs.Why.{Explained}
 use Rattle.net.proofs.Loops.{next-member, enabled-out}
-use Rattle.net.proofs.Runs.{after-first}
+use Rattle.net.proofs.Runs.{after-first, after-more}
 use Rattle.net.proofs.Why.{other-explained, disabled-explained}
 use Rattle.walk.specs.declared.Walk.{Walk}
 use Rattle.walk.specs.State.{netIn, startedAt, movedTo, empty, storing, marked, StoresNext, loaded}
@@ -31,16 +30,6 @@ use Rattle.walk.specs.History.{Call, answered, called, run, Log, noCalls
 use Rattle.walk.specs.History.Call.{load, fire, reset}
 use Rattle.walk.proofs.Walks.{read-granted}
 use Rattle.walk.proofs.Conditions.{new-unloaded, grants-where, fire-needs, fire-grants, load-loaded, fire-loaded, run-loaded}
-
--- one firing more at the end of a firing sequence
-after-more : (N : Net) (m e t : ℕ) (ts : List ℕ) → after N m ts ≡ some e → enabled N e t ≡ true → after N m (ts ++ (t ∷ [])) ≡ some (fired N e t)
-unfolding after
-after-more N m e t [] h p =
-    let q : m ≡ e = cc in
-    ap (λ (x : ℕ). cond (enabled N x t) (some (fired N x t)) none) q ∙ if-true _ _ none p
-after-more N m e t (u ∷ ts) h p =
-    let q = after-first N m e u ts h in
-    if-true _ _ none (q .0) ∙ after-more N (fired N m u) e t ts (q .1) p
 
 -- ---- one call
 
@@ -242,11 +231,11 @@ pub granted-walk : (w : Walk) (t : ℕ) → granted (fireAnswer w t) ≡ true �
 unfolding fireWalk
 granted-walk w t h = if-true _ _ w h
 
-pub granted-count : (w : Walk) (t : ℕ) → granted (fireAnswer w t) ≡ true → fireWalk w t .count ≡ w .count + 1
+granted-count : (w : Walk) (t : ℕ) → granted (fireAnswer w t) ≡ true → fireWalk w t .count ≡ w .count + 1
 unfolding movedTo
 granted-count w t h = ap (λ v. v .count) (granted-walk w t h)
 
-pub granted-after : (w : Walk) (t : ℕ) (ts : List ℕ) → granted (fireAnswer w t) ≡ true
+granted-after : (w : Walk) (t : ℕ) (ts : List ℕ) → granted (fireAnswer w t) ≡ true
     → after (netIn (fireWalk w t)) (fireWalk w t .present) ts ≡ after (netIn w) (fired (netIn w) (w .present) t) ts
 unfolding movedTo netIn
 granted-after w t ts h = ap (λ v. after (netIn v) (v .present) ts) (granted-walk w t h)
@@ -265,20 +254,28 @@ fired-all w (t ∷ ts) h =
       if-true _ _ none (fire-needs w t g .2) ∙ sym (granted-after w t ts g) ∙ r .1,
     )
 
--- a firing sequence of the walk's net for which the count has room is granted whole
+-- the first of a firing sequence of the walk's net, where the count has room for it, is granted, and the others are one of the walk after it
+pub first-granted : (w : Walk) (e t : ℕ) (ts : List ℕ) → loaded w ≡ true → after (netIn w) (w .present) (t ∷ ts) ≡ some e → w .count < 65535
+    → (granted (fireAnswer w t) ≡ true)
+    × (loaded (fireWalk w t) ≡ true)
+    × (after (netIn (fireWalk w t)) (fireWalk w t .present) ts ≡ some e)
+    × (fireWalk w t .count ≡ w .count + 1)
+first-granted w e t ts h q l =
+    let p = after-first (netIn w) (w .present) e t ts q in
+    let g = fire-grants w t h (p .0) l in
+    (g, fire-loaded w t g, granted-after w t ts g ∙ p .1, granted-count w t g)
+
+-- one for which the count has room is granted whole
 pub all-granted : (w : Walk) (e : ℕ) (ts : List ℕ) → loaded w ≡ true → after (netIn w) (w .present) ts ≡ some e → w .count + length ts ≤ 65535
     → allGranted w ts ≡ true
-unfolding allGranted after
+unfolding allGranted
 all-granted w e [] h q l = refl
 all-granted w e (t ∷ ts) h q l =
     let sum : w .count + suc (length ts) ≤ 65535 = l in
     let below : w .count < 65535 = omega arith in
-    let p = after-first (netIn w) (w .present) e t ts q in
-    let g = fire-grants w t h (p .0) below in
-    let one = granted-count w t g in
-    let most : fireWalk w t .count + length ts ≤ 65535 = omega (arith, one) in
-    and-intro (granted (fireAnswer w t)) (allGranted (fireWalk w t) ts) g
-    (all-granted (fireWalk w t) e ts (fire-loaded w t g) (granted-after w t ts g ∙ p .1) most)
+    let p = first-granted w e t ts h q below in
+    let most : fireWalk w t .count + length ts ≤ 65535 = omega (arith, p .3) in
+    and-intro (granted (fireAnswer w t)) (allGranted (fireWalk w t) ts) (p .0) (all-granted (fireWalk w t) e ts (p .1) (p .2) most)
 
 -- ---- a granted load, and then firings that are all granted
 

@@ -17,21 +17,19 @@ use Rattle.net.specs.Step as step
 use Rattle.net.specs.Table.{placesGood}
 use Rattle.net.specs.Sequence.{after}
 use Rattle.net.specs.Swaps.Swapped.{swap}
-use Rattle.net.proofs.Runs.{after-first}
 use Rattle.walk.specs.declared.Walk.{Walk}
 use Rattle.walk.specs.State as state
-use Rattle.walk.specs.State.{netIn, startedAt, movedTo, loaded}
+use Rattle.walk.specs.State.{startedAt, movedTo, loaded}
 use Rattle.walk.specs.Calls as calls
 use Rattle.walk.specs.Calls.{fireWalk}
 use Rattle.walk.specs.History.{fireAll}
 use Rattle.walk.specs.Swaps.{Leads, CountFull, RoomNeeded}
 use Rattle.walk.proofs.Walks.{loaded-sound}
-use Rattle.walk.proofs.Conditions.{fire-grants, fire-loaded}
-use Rattle.walk.proofs.Histories.{granted-count, granted-after}
+use Rattle.walk.proofs.Histories.{first-granted}
 use Rattle.walk.proofs.Swaps.{full-stays, stays}
 
 pub count-full : CountFull
-unfolding CountFull fireAll after
+unfolding CountFull fireAll
 count-full w [] e h q l =
     let sum : 65535 ≤ w .count + 0 = l in
     let most = leb-true (w .count) 65535 (loaded-sound w h .count) in
@@ -45,11 +43,9 @@ count-full w (t ∷ ts) e h q l = by (passed (ltb (w .count) 65535)) (count-full
         → (loaded (fireWalk w t) ≡ true → Leads (fireWalk w t) ts e → 65535 ≤ fireWalk w t .count + length ts → fireAll (fireWalk w t) ts .count ≡ 65535)
         → fireAll (fireWalk w t) ts .count ≡ 65535
     by (inl p) rest =
-        let r = after-first (netIn w) (w .present) e t ts q in
-        let g = fire-grants w t h (r .0) (ltb-true (w .count) 65535 p) in
-        let one = granted-count w t g in
-        let least : 65535 ≤ fireWalk w t .count + length ts = omega (arith, sum, one) in
-        rest (fire-loaded w t g) (granted-after w t ts g ∙ r .1) least
+        let r = first-granted w e t ts h q (ltb-true (w .count) 65535 p) in
+        let least : 65535 ≤ fireWalk w t .count + length ts = omega (arith, sum, r .3) in
+        rest (r .1) (r .2) least
     by (inr p) rest =
         let least = ltb-false (w .count) 65535 p in
         let most = leb-true (w .count) 65535 (loaded-sound w h .count) in
