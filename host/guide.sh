@@ -14,7 +14,7 @@ libraries=()
 for library in ${DESK_LINK:-}; do libraries+=("-l$library"); done
 
 # The code that the pages must have, and the files whose nodes they must list.
-code="screen.c clerks.c loader.c converted.c rule.sh r.sh written.c shelf.sh marks.sh editor.sh planner.c counters.c search.c terminal.c trail.sh"
+code="screen.c clerks.c loader.c converted.c rule.sh r.sh written.c room.c shelf.sh marks.sh editor.sh planner.c counters.c search.c terminal.c trail.sh"
 tables="examples/r/TREE"
 
 # The folder that the pages speak of.

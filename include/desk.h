@@ -1,6 +1,7 @@
 /* The desk's C interface: the tree check, the single firing and the category
  * labels of document 01; nets as PNML text, the writer of trees, the converter of
- * category files and two nets side by side of document 02. Archive: libdesk.a.
+ * category files, two nets side by side and room in the formula table of document
+ * 02. Archive: libdesk.a.
  *
  * Tables and texts are lent as a pointer and a length in bytes. They are only
  * read, and nothing of them is kept after the call. Room for what a call writes
@@ -52,7 +53,7 @@ enum {
     DESK_NO_TRANSITION = 8,      /* transition number not in the net */
     DESK_BAD_CATEGORIES_SIZE = 9, /* not 0 to 2,000 category records */
     DESK_BAD_CATEGORY = 10,      /* a faulty category record; one of kind 1 is, but in desk_convert_categories */
-    DESK_SHORT_ROOM = 12,        /* the room is too short for what is to be written */
+    DESK_SHORT_ROOM = 12,        /* a room is too short for what is to be written */
     DESK_BAD_PNML = 13,          /* the text is not of the shape that is read */
     DESK_HAS_UNTIL = 14,         /* the asked formula contains operator 4 or 5 */
     DESK_TOO_LARGE = 15,         /* the places or the transitions of two nets add up to more than 64 */
@@ -184,6 +185,27 @@ uint32_t desk_join(uint32_t first_places, uint64_t first_marking,
                    uint8_t *room, size_t room_len,
                    uint64_t *record, uint32_t *places, uint64_t *marking, uint64_t *length);
 
+/* The tables of an accepted tree without the formula records that the asked one
+ * does not reach through its operands. The records that it reaches, itself
+ * included, stand in the old order and without gaps at the start of new_formulas;
+ * the ask and the nodes stand at the start of new_ask and new_tree. Operands, and
+ * the formulas of the ask and of each node, have the new numbers; nothing else is
+ * changed. desk_check accepts the new tables with as many nodes, and their claim
+ * is the same. The answer is DESK_GRANTED with *place 0 and the number of formula
+ * records left in *count. It is desk_check's own where that does not accept: 1 to
+ * 7 with the record, 20 to 26 with the node, in *place. Then it is 12, with *place
+ * 0, exactly where new_ask is shorter than an ask, new_formulas than the records
+ * left, or new_tree than the tree. Where the call refuses, *count is 0. Rooms as
+ * long as the tables are enough. Given the new tables, the call writes the same. */
+uint32_t desk_save_room(const uint8_t *ask, size_t ask_len,
+                        const uint8_t *net, size_t net_len,
+                        const uint8_t *formulas, size_t formulas_len,
+                        const uint8_t *tree, size_t tree_len,
+                        uint8_t *new_ask, size_t new_ask_len,
+                        uint8_t *new_formulas, size_t new_formulas_len,
+                        uint8_t *new_tree, size_t new_tree_len,
+                        uint64_t *place, uint64_t *count);
+
 /* A pointer that is not null, for a table or text that may be NULL with length 0. */
 static inline const uint8_t *desk_table(const uint8_t *table)
 {
@@ -290,6 +312,23 @@ static inline uint32_t desk_join_bytes(uint32_t first_places, uint64_t first_mar
     return desk_join(first_places, first_marking, desk_table(first), first_len,
                      second_places, second_marking, desk_table(second), second_len,
                      desk_room(room), room_len, record, places, marking, length);
+}
+
+/* desk_save_room, where a table or room of length 0 may be NULL. */
+static inline uint32_t desk_save_room_bytes(const uint8_t *ask, size_t ask_len,
+                                            const uint8_t *net, size_t net_len,
+                                            const uint8_t *formulas, size_t formulas_len,
+                                            const uint8_t *tree, size_t tree_len,
+                                            uint8_t *new_ask, size_t new_ask_len,
+                                            uint8_t *new_formulas, size_t new_formulas_len,
+                                            uint8_t *new_tree, size_t new_tree_len,
+                                            uint64_t *place, uint64_t *count)
+{
+    return desk_save_room(desk_table(ask), ask_len, desk_table(net), net_len,
+                          desk_table(formulas), formulas_len, desk_table(tree), tree_len,
+                          desk_room(new_ask), new_ask_len,
+                          desk_room(new_formulas), new_formulas_len,
+                          desk_room(new_tree), new_tree_len, place, count);
 }
 
 #ifdef __cplusplus

@@ -19,7 +19,7 @@ gcc -std=c11 -O2 -Wall -Wextra -Werror -c "$host/pair/pair.c" -o "$work/pair.o"
 # renamed SIDE ARCHIVE
 renamed() {
     local names=()
-    for name in check fire categories label pnml_write pnml_read write_tree convert_categories join; do names+=(--redefine-sym "desk_$name=$1_desk_$name"); done
+    for name in check fire categories label pnml_write pnml_read write_tree convert_categories join save_room; do names+=(--redefine-sym "desk_$name=$1_desk_$name"); done
     objcopy "${names[@]}" "$2" "$work/$1.a"
 }
 renamed before "$before"

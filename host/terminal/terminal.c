@@ -1613,6 +1613,261 @@ static void joins_refused(void)
     unjoined("no room", good[0], good[0], 0, DESK_SHORT_ROOM, 0);
 }
 
+/* Room in the formula table */
+
+typedef uint32_t save_call(const uint8_t *, size_t, const uint8_t *, size_t, const uint8_t *,
+                           size_t, const uint8_t *, size_t, uint8_t *, size_t, uint8_t *, size_t,
+                           uint8_t *, size_t, uint64_t *, uint64_t *);
+
+/* The four tables of a tree. */
+typedef struct {
+    table ask, net, formulas, tree;
+} tables;
+
+static tables tables_of(table ask, table net, table formulas, table tree)
+{
+    tables t = {ask, net, formulas, tree};
+    return t;
+}
+
+static const tables NO_TABLES = {{NULL, 0}, {NULL, 0}, {NULL, 0}, {NULL, 0}};
+
+/* The lengths of the rooms for the ask, the formulas and the tree. */
+typedef struct {
+    size_t len[3];
+} lengths;
+
+static lengths lengths_of(tables t, size_t more)
+{
+    lengths l = {{t.ask.len + more, t.formulas.len + more, t.tree.len + more}};
+    return l;
+}
+
+/* A room inside filled bytes, `around` of them on each side. */
+typedef struct {
+    uint8_t *whole, *room;
+} inside;
+
+static inside filled_around(size_t len, size_t around)
+{
+    uint8_t *whole = filled(len + 2 * around);
+    inside i = {whole, whole != NULL ? whole + around : NULL};
+    return i;
+}
+
+/* `after` is NO_TABLES where the call is refused. The function itself is called too where
+ * no pointer is NULL. */
+static void save(const char *what, tables t, lengths rooms, uint32_t number, uint64_t place,
+                 tables after)
+{
+    const table written[3] = {after.ask, after.formulas, after.tree};
+    int null = t.ask.bytes == NULL || t.net.bytes == NULL || t.formulas.bytes == NULL ||
+               t.tree.bytes == NULL;
+    for (size_t around = 0; around <= BEHIND; around += BEHIND) {
+        inside in[3];
+        for (size_t i = 0; i < 3; i++) {
+            in[i] = filled_around(rooms.len[i], around);
+        }
+        uint64_t found_place = UNWRITTEN;
+        uint64_t found_count = UNWRITTEN;
+        save_call *call = null || around == 0 ? desk_save_room_bytes : desk_save_room;
+        expect(what, "number", number,
+               call(t.ask.bytes, t.ask.len, t.net.bytes, t.net.len, t.formulas.bytes,
+                    t.formulas.len, t.tree.bytes, t.tree.len, in[0].room, rooms.len[0],
+                    in[1].room, rooms.len[1], in[2].room, rooms.len[2], &found_place,
+                    &found_count));
+        expect(what, "place", place, found_place);
+        expect(what, "count", after.formulas.len / DESK_FORMULA_BYTES, found_count);
+        for (size_t i = 0; i < 3; i++) {
+            stands(what, in[i].whole, around, NOTHING);
+            stands(what, in[i].room, rooms.len[i] + around, written[i]);
+            free(in[i].whole);
+        }
+    }
+}
+
+/* A refused call. */
+static void unsaved(const char *what, tables t, lengths rooms, uint32_t number, uint64_t place)
+{
+    save(what, t, rooms, number, place, NO_TABLES);
+}
+
+/* An accepted tree in rooms of several lengths. The check accepts what it becomes, which
+ * stays the same. */
+static void saves(const char *what, tables t, tables after)
+{
+    static const size_t more[4] = {0, 1, DESK_NODE_BYTES, 1000};
+    for (size_t i = 0; i < 4; i++) {
+        save(what, t, lengths_of(after, more[i]), DESK_GRANTED, 0, after);
+        for (size_t room = 0; room < 3; room++) {
+            lengths rooms = lengths_of(after, more[i]), none = rooms;
+            rooms.len[room] -= more[i] + 1;
+            none.len[room] = 0;
+            unsaved(what, t, rooms, DESK_SHORT_ROOM, 0);
+            unsaved(what, t, none, DESK_SHORT_ROOM, 0);
+        }
+    }
+    unsaved(what, t, lengths_of(NO_TABLES, 0), DESK_SHORT_ROOM, 0);
+    save(what, t, lengths_of(t, 0), DESK_GRANTED, 0, after);
+    save(what, after, lengths_of(after, 0), DESK_GRANTED, 0, after);
+    check(what, after.ask, after.net, after.formulas, after.tree, DESK_GRANTED,
+          after.tree.len / DESK_NODE_BYTES);
+}
+
+/* The same tables with formula k numbered numbers[k]; below 256. */
+static tables renumbered(tables t, table formulas, const uint8_t *numbers)
+{
+    tables new_tables = {resized(t.ask, t.ask.len), t.net, formulas, resized(t.tree, t.tree.len)};
+    new_tables.ask.bytes[8] = numbers[t.ask.bytes[8]];
+    for (size_t at = 32; at < t.tree.len; at += DESK_NODE_BYTES) {
+        new_tables.tree.bytes[at] = numbers[t.tree.bytes[at]];
+    }
+    return new_tables;
+}
+
+/* A formula table from operator, left, right and action. */
+static table formulas_of(const uint8_t (*rows)[4], size_t count)
+{
+    table t = empty_table(count * DESK_FORMULA_BYTES);
+    for (size_t i = 0; i < count; i++) {
+        put_formula(t.bytes + i * DESK_FORMULA_BYTES, rows[i][0], rows[i][1], rows[i][2],
+                    rows[i][3]);
+    }
+    return t;
+}
+
+static tables tables_r(void)
+{
+    return tables_of(ask_r(3, 2, 3, DESK_HOLDS), net_r(3), formulas_r(), holds_tree());
+}
+
+/* R's formulas as these records, with dead ones before, between and behind. */
+static const uint8_t DEAD_NUMBERS[3] = {1, 3, 5};
+
+static tables tables_r_dead(void)
+{
+    static const uint8_t rows[8][4] = {{0, 0, 0, 0}, {0, 0, 0, 0}, {1, 1, 0, 0}, {3, 1, 0, 3},
+                                       {2, 2, 3, 0}, {5, 1, 3, 0}, {4, 5, 4, 0}, {3, 6, 0, 2}};
+    return renumbered(tables_r(), formulas_of(rows, 8), DEAD_NUMBERS);
+}
+
+static void tables_saved(void)
+{
+    tables r = tables_r(), dead = tables_r_dead();
+    saves("R, all reached", r, r);
+    saves("R, dead records", dead, r);
+    static const uint8_t before[4][4] = {{0, 0, 0, 0}, {0, 0, 0, 0}, {3, 1, 0, 3}, {5, 1, 2, 0}};
+    static const uint8_t between[4][4] = {{0, 0, 0, 0}, {1, 0, 0, 0}, {3, 0, 0, 3}, {5, 0, 2, 0}};
+    static const uint8_t behind[4][4] = {{0, 0, 0, 0}, {3, 0, 0, 3}, {5, 0, 1, 0}, {5, 2, 2, 0}};
+    static const uint8_t numbers[3][3] = {{1, 2, 3}, {0, 2, 3}, {0, 1, 2}};
+    saves("dead before", renumbered(r, formulas_of(before, 4), numbers[0]), r);
+    saves("dead between", renumbered(r, formulas_of(between, 4), numbers[1]), r);
+    saves("dead behind", renumbered(r, formulas_of(behind, 4), numbers[2]), r);
+
+    /* The claim that fails, with rules 31, 32, 24 and 33. */
+    tables one = tables_of(ask_r(1, 2, 1, DESK_FAILS), net_r(1), formulas_r(), loop_tree(1, 1, 0));
+    saves("one place, all reached", one, one);
+    saves("one place, dead records", renumbered(one, dead.formulas, DEAD_NUMBERS), one);
+}
+
+/* The check's own answers, and 12 after them. */
+static void saves_refused(void)
+{
+    tables t = tables_r_dead();
+    table beyond = changed(t.ask, 0, 11);
+    const struct {
+        const char *what;
+        tables t;
+        uint32_t number;
+        uint64_t place;
+    } cases[] = {
+        {"nothing at all", NO_TABLES, DESK_BAD_ASK, 0},
+        {"side 2", tables_of(changed(t.ask, 11, 2), t.net, t.formulas, t.tree), DESK_BAD_ASK, 0},
+        {"no net", tables_of(beyond, NOTHING, NOTHING, NOTHING), DESK_BAD_NET_SIZE, 0},
+        {"spare byte", tables_of(beyond, changed(t.net, 71, 1), NOTHING, NOTHING),
+         DESK_BAD_TRANSITION, 2},
+        {"no formulas", tables_of(beyond, t.net, NOTHING, NOTHING), DESK_BAD_FORMULAS_SIZE, 0},
+        {"257 formulas", tables_of(beyond, t.net, resized(t.formulas, 257 * 8), NOTHING),
+         DESK_BAD_FORMULAS_SIZE, 0},
+        {"a dead record", tables_of(beyond, t.net, changed(t.formulas, 56 + 2, 7), NOTHING),
+         DESK_BAD_FORMULA, 7},
+        {"no tree", tables_of(beyond, t.net, t.formulas, NOTHING), DESK_BAD_TREE_SIZE, 0},
+        {"marking beyond", tables_of(beyond, t.net, t.formulas, t.tree), DESK_BAD_MARKING, 0},
+        {"formula beyond", tables_of(changed(t.ask, 8, 8), t.net, t.formulas, t.tree),
+         DESK_BAD_MARKING, 0},
+        {"a leaf with a first child",
+         tables_of(t.ask, t.net, t.formulas, changed(t.tree, 22 * 40 + 28, 1)), DESK_FAULT_LINKS,
+         22},
+        {"phase 5", tables_of(t.ask, t.net, t.formulas, changed(t.tree, 37, 5)), DESK_FAULT_RANGE,
+         0},
+        {"the other side", tables_of(changed(t.ask, 11, 1), t.net, t.formulas, t.tree),
+         DESK_FAULT_ROOT, 0},
+        {"a dead record asked", tables_of(changed(t.ask, 8, 7), t.net, t.formulas, t.tree),
+         DESK_FAULT_ROOT, 0},
+        {"rule 19", tables_of(t.ask, t.net, t.formulas, changed(t.tree, 21 * 40 + 35, 19)),
+         DESK_FAULT_RULE, 21},
+        {"rule 5 on the trail", tables_of(t.ask, t.net, t.formulas, changed(t.tree, 2 * 40 + 35, 5)),
+         DESK_FAULT_CONDITION, 2},
+        {"rule 5 with three", tables_of(t.ask, t.net, t.formulas, changed(t.tree, 35, 5)),
+         DESK_FAULT_COUNT, 0},
+        {"a dead record in a leaf",
+         tables_of(t.ask, t.net, t.formulas, changed(t.tree, 22 * 40 + 32, 0)), DESK_FAULT_CHILD,
+         20},
+    };
+    for (size_t i = 0; i < sizeof cases / sizeof cases[0]; i++) {
+        tables c = cases[i].t;
+        check(cases[i].what, c.ask, c.net, c.formulas, c.tree, cases[i].number, cases[i].place);
+        unsaved(cases[i].what, c, lengths_of(NO_TABLES, 0), cases[i].number, cases[i].place);
+        unsaved(cases[i].what, c, lengths_of(t, 0), cases[i].number, cases[i].place);
+        unsaved(cases[i].what, c, lengths_of(t, 1000), cases[i].number, cases[i].place);
+    }
+}
+
+/* A table of 256 records: `step` apart stand record 0 and so many "and"s, each of the one
+ * before with itself, the others are dead. */
+static table spaced_ands(size_t ands, size_t step)
+{
+    table t = empty_table(DESK_FORMULAS_MAX * DESK_FORMULA_BYTES);
+    for (size_t k = 1; k < DESK_FORMULAS_MAX; k++) {
+        int reached = k % step == 0 && k <= ands * step;
+        size_t operand = reached ? k - step : k - 1;
+        put_formula(t.bytes + k * DESK_FORMULA_BYTES, 2, operand, operand, 0);
+    }
+    return t;
+}
+
+/* The tables of "formula f holds" at marking 3 in net R, with the tree that is written. */
+static tables tables_written(table formulas, uint64_t formula, size_t nodes)
+{
+    tables t = {ask_r(3, formula, 3, DESK_HOLDS), net_r(3), formulas,
+                empty_table(nodes * DESK_NODE_BYTES)};
+    write_tree_by(desk_write_tree, "a tree", t.ask, t.net, t.formulas, t.tree.bytes, t.tree.len,
+                  DESK_GRANTED, 0, DESK_HOLDS, nodes);
+    return t;
+}
+
+/* 256 records, from one of them reached to all, and trees of up to 65,535 nodes. */
+static void saves_at_the_limit(void)
+{
+    for (size_t ands = 0; ands <= 15; ands += 5) {
+        size_t nodes = ((size_t)2 << ands) - 1;
+        table all = spaced_ands(ands, 1);
+        tables after = tables_written(resized(all, (ands + 1) * DESK_FORMULA_BYTES), ands, nodes);
+        saves("the first of 256", tables_written(all, ands, nodes), after);
+        saves("every 17th of 256", tables_written(spaced_ands(ands, 17), 17 * ands, nodes), after);
+        give_back();
+    }
+    table nots = empty_table(DESK_FORMULAS_MAX * DESK_FORMULA_BYTES);
+    for (size_t k = 1; k < DESK_FORMULAS_MAX; k++) {
+        put_formula(nots.bytes + k * DESK_FORMULA_BYTES, 1, k - 1, 0, 0);
+    }
+    tables even = tables_written(resized(nots, 255 * DESK_FORMULA_BYTES), 254, 255);
+    saves("255 of 256", tables_written(nots, 254, 255), even);
+    put_formula(nots.bytes + 255 * DESK_FORMULA_BYTES, 2, 254, 254, 0);
+    tables all = tables_written(nots, 255, 2 * 255 + 1);
+    saves("all of 256", all, all);
+}
+
 /* The tables of "R holds 2" as files, to be compared with the other places that
  * have them: 0 where they are written. */
 static int write_table(const char *folder, const char *name, table t)
@@ -1688,6 +1943,12 @@ int main(int argc, char **argv)
     joins_at_the_limit();
     give_back();
     joins_refused();
+    give_back();
+    tables_saved();
+    give_back();
+    saves_refused();
+    give_back();
+    saves_at_the_limit();
     give_back();
     if (failed > 0) {
         printf("%u checks passed, %u failed\n", passed, failed);

@@ -1,18 +1,20 @@
 -- The lengths of the records that are written: each is as long as a record, so that the converted file is as long as the file. Assumes
 -- nothing.
-use mathlib.Core.Path.{_≡_, refl, sym, ap₂, _∙_}
+use mathlib.Core.Path.{_≡_, sym, _∙_}
 use mathlib.Core.Bool.{Bool, true, false, cond}
 use mathlib.Core.List.{List}
-use Prim.Native.Nat.{ℕ, zero, suc, _+_, _*_, _≤_, _<_}
-use native.Mathlib.Nat.{suc-mul}
+use Prim.Native.Nat.{ℕ, _+_, _*_, _≤_, _<_}
+use native.Mathlib.Nat.{lt-of-lt-of-le}
 use native.Mathlib.Omega.{arith}
 use lib.ListN.{length, take, drop, length-append}
+use Rattle.tables.specs.Lists.{laid}
 use Rattle.tables.proofs.Counts.{record-inside}
 use Rattle.tables.proofs.Parts.{length-part}
+use Rattle.tables.proofs.Laid.{laid-whole}
 use Rattle.category.specs.Records.{count}
 use Rattle.category_borrowed.specs.Files.{borrows, valid}
 use Rattle.category_borrowed.specs.Lookup.{sourceAt}
-use Rattle.category_borrowed.specs.Converted.{withText, convertedRecord, convertedTo, converted}
+use Rattle.category_borrowed.specs.Converted.{withText, convertedRecord, converted}
 use Rattle.category_borrowed.proofs.Valid.{valid-length, source-inside}
 
 -- a record with another's text
@@ -30,7 +32,7 @@ length-own : (file : List ℕ) (i : ℕ) → i < count file → length (take 32 
 length-own file i l = length-part 32 (i * 32) file (record-inside 32 (length file) i l)
 
 module _ (file : List ℕ) (v : valid file ≡ true) where
-  length-record : (i : ℕ) → i < count file → length (convertedRecord file i) ≡ 32
+  pub length-record : (i : ℕ) → i < count file → length (convertedRecord file i) ≡ 32
   unfolding convertedRecord
   length-record i l = by (borrows file i)
     where
@@ -38,13 +40,8 @@ module _ (file : List ℕ) (v : valid file ≡ true) where
       by true = length-with-text file i (sourceAt file i) l (source-inside file v i l)
       by false = length-own file i l
 
-  pub length-to : (n : ℕ) → n ≤ count file → length (convertedTo file n) ≡ n * 32
-  unfolding convertedTo
-  length-to zero h = refl
-  length-to (suc n) h =
-      length-append (convertedTo file n) (convertedRecord file n)
-      ∙ ap₂ (λ (x y : ℕ). x + y) (length-to n (omega arith)) (length-record n h)
-      ∙ sym (suc-mul n 32)
+  pub length-to : (n : ℕ) → n ≤ count file → length (laid (convertedRecord file) n) ≡ n * 32
+  length-to n h = laid-whole (convertedRecord file) 32 n (λ i l. length-record i (lt-of-lt-of-le l h))
 
   pub length-converted : length (converted file) ≡ length file
   unfolding converted

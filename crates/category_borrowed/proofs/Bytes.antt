@@ -1,22 +1,22 @@
 -- The bytes of the converted file of a valid one, record by record: those of the record where it borrows no text; else its action, zeros, and
 -- the text of its lender. Assumes nothing.
-use mathlib.Core.Path.{_≡_, sym, ap, ap₂, _∙_, subst}
+use mathlib.Core.Path.{_≡_, sym, ap, _∙_, subst}
 use mathlib.Core.Bool.{true, false}
 use mathlib.Core.Logic.{⊎-elim}
 use mathlib.Core.List.{List, [], _++_}
-use Prim.Native.Nat.{ℕ, zero, suc, _+_, _-_, _*_, _≤_, _<_}
+use Prim.Native.Nat.{ℕ, _+_, _-_, _*_, _≤_, _<_}
 use native.Mathlib.Omega.{arith}
 use lib.ListN.{length, getD, take, drop, replicate, length-append, getD-replicate, List·getD-append}
 use Rattle.tables.proofs.Counts.{record-inside}
-use Rattle.tables.proofs.Below.{lt-or-ge}
 use Rattle.tables.proofs.Parts.{length-part, getD-part, getD-after}
+use Rattle.tables.proofs.Laid.{laid-byte}
 use Rattle.tables.proofs.Tests.{passed, if-true, if-false}
 use Rattle.category.specs.Records.{count}
 use Rattle.category_borrowed.specs.Files.{borrows, valid}
 use Rattle.category_borrowed.specs.Lookup.{sourceAt}
-use Rattle.category_borrowed.specs.Converted.{withText, convertedRecord, convertedTo, converted}
+use Rattle.category_borrowed.specs.Converted.{withText, convertedRecord, converted}
 use Rattle.category_borrowed.proofs.Valid.{source-own}
-use Rattle.category_borrowed.proofs.Blocks.{length-to}
+use Rattle.category_borrowed.proofs.Blocks.{length-record}
 use Rattle.category_borrowed.proofs.Same.{Same}
 
 -- a record with another's text
@@ -53,30 +53,10 @@ module _ (file : List ℕ) (i s : ℕ) (l : i < count file) where
       ∙ ap (λ (x : ℕ). getD file x 0) p
 
 module _ (file : List ℕ) (v : valid file ≡ true) where
-  -- record after record
-  to-byte : (n i j : ℕ) → n ≤ count file → i < n → j < 32 → getD (convertedTo file n) (i * 32 + j) 0 ≡ getD (convertedRecord file i) j 0
-  unfolding convertedTo
-  to-byte zero i j h l m = absurd (omega arith)
-  to-byte (suc n) i j h l m = ⊎-elim (earlier (to-byte n i j (omega arith))) last (lt-or-ge i n)
-    where
-      done : length (convertedTo file n) ≡ n * 32
-      done = length-to file v n (omega arith)
-
-      earlier : (i < n → j < 32 → getD (convertedTo file n) (i * 32 + j) 0 ≡ getD (convertedRecord file i) j 0) → i < n
-          → getD (convertedTo file n ++ convertedRecord file n) (i * 32 + j) 0 ≡ getD (convertedRecord file i) j 0
-      earlier ih q = List·getD-append (convertedTo file n) (convertedRecord file n) 0 (i * 32 + j) (omega (arith, done)) ∙ ih q m
-
-      last : n ≤ i → getD (convertedTo file n ++ convertedRecord file n) (i * 32 + j) 0 ≡ getD (convertedRecord file i) j 0
-      last q =
-          let e : i ≡ n = omega arith in
-          let p : i * 32 + j - n * 32 ≡ j = omega arith in
-          getD-after (convertedTo file n) (convertedRecord file n) (n * 32) (i * 32 + j) done (omega arith)
-          ∙ ap₂ (λ (x y : ℕ). getD (convertedRecord file x) y 0) (sym e) p
-
   module _ (i : ℕ) (l : i < count file) where
     record-byte : (j : ℕ) → j < 32 → getD (converted file) (i * 32 + j) 0 ≡ getD (convertedRecord file i) j 0
     unfolding converted
-    record-byte j h = to-byte (count file) i j (omega arith) l h
+    record-byte j h = laid-byte (convertedRecord file) 32 (count file) (length-record file v) i l j h
 
     -- one that borrows no text, and one that does
     own-byte : borrows file i ≡ false → (j : ℕ) → j < 32 → getD (converted file) (i * 32 + j) 0 ≡ getD file (i * 32 + j) 0

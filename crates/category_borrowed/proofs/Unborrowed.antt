@@ -2,7 +2,7 @@
 use mathlib.Core.Path.{_≡_, refl, sym, ap, ap₂, _∙_}
 use mathlib.Core.Bool.{Bool, true, false, not, cond, _&&_, and-false, true≢false}
 use mathlib.Core.List.{List, _++_}
-use Prim.Native.Nat.{ℕ, zero, suc, _+_, _*_, _≤_, _<_}
+use Prim.Native.Nat.{ℕ, zero, suc, _*_, _≤_, _<_}
 use native.Mathlib.Nat.{suc-mul}
 use native.Mathlib.Omega.{arith}
 use lib.ListN.{length, take, drop}
@@ -11,12 +11,15 @@ use lib.Dec.{eqb}
 use borrow.Author.Tests.{eqb-true}
 use Rattle.tables.specs.Faults.{Fault}
 use Rattle.tables.proofs.Scans.{scan-ext}
+use Rattle.tables.specs.Lists.{laid}
+use Rattle.tables.specs.Below.{countBelow}
+use Rattle.tables.proofs.Below.{count-rest}
 use Rattle.tables.proofs.Tests.{if-false, failed}
 use Rattle.category.specs.Records.{count, kindAt, spareZero}
 use Rattle.category.specs.Faults.{ascends, ownGood, recordBad, fileFault, faultless}
 use Rattle.category.proofs.Faultless.{kind-zero}
 use Rattle.category_borrowed.specs.Files.{borrows, borrowGood, kindGood, faultyAt, faultOf, valid}
-use Rattle.category_borrowed.specs.Converted.{convertedRecord, convertedTo, converted, borrowersTo, rewritten}
+use Rattle.category_borrowed.specs.Converted.{convertedRecord, converted, rewritten}
 use Rattle.category_borrowed.specs.Theorem.{NoneBorrows}
 use Rattle.category_borrowed.proofs.Valid.{valid-length}
 
@@ -48,8 +51,8 @@ module _ (file : List ℕ) (n : NoneBorrows file) where
   unfolding convertedRecord
   same-record i l = if-false _ _ _ (n i l)
 
-  same-to : (k : ℕ) → k ≤ count file → convertedTo file k ≡ take (k * 32) file
-  unfolding convertedTo
+  same-to : (k : ℕ) → k ≤ count file → laid (convertedRecord file) k ≡ take (k * 32) file
+  unfolding laid
   same-to zero h = refl
   same-to (suc k) h =
       ap₂ _++_ (same-to k (omega arith)) (same-record k h)
@@ -60,14 +63,9 @@ module _ (file : List ℕ) (n : NoneBorrows file) where
   unfolding converted
   same-file v = same-to (count file) (omega arith) ∙ ap (λ (x : ℕ). take x file) (sym (valid-length file v)) ∙ take-length file
 
-  no-borrowers : (k : ℕ) → k ≤ count file → borrowersTo file k ≡ 0
-  unfolding borrowersTo
-  no-borrowers zero h = refl
-  no-borrowers (suc k) h = ap₂ (λ (x y : ℕ). x + y) (no-borrowers k (omega arith)) (if-false (borrows file k) 1 0 (n k h))
-
   pub none-rewritten : rewritten file ≡ 0
-  unfolding rewritten
-  none-rewritten = no-borrowers (count file) (omega arith)
+  unfolding rewritten countBelow
+  none-rewritten = count-rest (borrows file) 0 (count file) (omega arith) (λ i p l. n i l)
 
 -- a file that is faultless now has no kind 1
 pub faultless-none : (file : List ℕ) → faultless file ≡ true → NoneBorrows file

@@ -7,16 +7,18 @@ use native.Mathlib.Nat.{le-antisymm}
 use native.Mathlib.Numerals.{add-one}
 use native.Mathlib.Omega.{arith}
 use lib.ListN.{length, take, drop, replicate, length-append}
-use lib.Seq.{sets, length-sets}
+use lib.Seq.{sets}
+use Rattle.tables.specs.Below.{countBelow}
 use Rattle.tables.proofs.Counts.{record-inside}
 use Rattle.tables.proofs.Parts.{length-part}
 use Rattle.tables.proofs.Tests.{if-true, if-false}
 use Rattle.stores.specs.Low.{lowBytes}
 use Rattle.stores.proofs.Stores.{after, sets-front}
+use Rattle.stores.proofs.Laid.{Stored, stored-none, stored-next, stored-all}
 use Rattle.category.specs.Records.{count}
 use Rattle.category_borrowed.specs.Files.{borrows, valid}
 use Rattle.category_borrowed.specs.Lookup.{sourceAt}
-use Rattle.category_borrowed.specs.Converted.{withText, convertedRecord, convertedTo, converted, borrowersTo, rewritten}
+use Rattle.category_borrowed.specs.Converted.{withText, convertedRecord, converted, rewritten}
 use Rattle.category_borrowed.proofs.Blocks.{length-to, length-converted}
 
 -- ---- one record
@@ -57,14 +59,13 @@ module _ (file room : List ℕ) (i : ℕ) where
 -- the first i are written, and k of them were rewritten
 pub record Written (file room₀ : List ℕ) (room : List ℕ) (k i : ℕ) : Type 0 where
   pub inside : i ≤ count file
-  pub size : length room ≡ length room₀
-  pub stored : room ≡ sets room₀ 0 (convertedTo file i)
-  pub number : k ≡ borrowersTo file i
+  pub records : Stored (convertedRecord file) room₀ 0 room i
+  pub number : k ≡ countBelow (borrows file) i
   pub most : k ≤ i
 
 pub written-none : (file room : List ℕ) → Written file room room 0 0
-unfolding convertedTo borrowersTo
-written-none file room = record { inside = omega arith; size = refl; stored = refl; number = refl; most = omega arith }
+unfolding countBelow
+written-none file room = record { inside = omega arith; records = stored-none (convertedRecord file) room 0; number = refl; most = omega arith }
 
 -- a record counts at most once
 pub once : (file : List ℕ) (i : ℕ) {d : ℕ} → d ≡ cond (borrows file i) 1 0 → d ≤ 1
@@ -77,28 +78,19 @@ once file i {d} e = by (borrows file i) e
 module _ {file room₀ room : List ℕ} {k i : ℕ} (v : valid file ≡ true) (w : Written file room₀ room k i) where
   pub written-next : {r : List ℕ} {d : ℕ} → i < count file → r ≡ sets room (i * 32) (convertedRecord file i) → d ≡ cond (borrows file i) 1 0
       → Written file room₀ r (k + d) (i + 1)
-  unfolding convertedTo borrowersTo
-  written-next {r} {d} l p q =
+  unfolding countBelow
+  written-next l p q =
       record {
         inside = omega arith;
-        size = ap length p ∙ length-sets room (i * 32) (convertedRecord file i) ∙ w .size;
-        stored = grown ∙ ap (λ (x : ℕ). sets room₀ 0 (convertedTo file x)) (sym (add-one i));
-        number = ap₂ _+_ (w .number) q ∙ ap (borrowersTo file) (sym (add-one i));
+        records = stored-next (w .records) (i * 32) (omega (arith, length-to file v i (w .inside))) p;
+        number = ap₂ _+_ (w .number) q ∙ ap (countBelow (borrows file)) (sym (add-one i));
         most = omega (arith, w .most, once file i q);
       }
-    where
-      start : i * 32 ≡ 0 + length (convertedTo file i)
-      start = omega (arith, length-to file v i (w .inside))
-
-      grown : r ≡ sets room₀ 0 (convertedTo file i ++ convertedRecord file i)
-      grown = after room₀ 0 (convertedTo file i) (convertedRecord file i) start (w .stored) p
 
   pub written-all : count file ≤ i → length file ≤ length room₀ → (room ≡ converted file ++ drop (length file) room₀) × (k ≡ rewritten file)
   unfolding converted rewritten
   written-all l h =
-      let e : i ≡ count file = le-antisymm (w .inside) l in
       let s : length (converted file) ≡ length file = length-converted file v in (
-        w .stored ∙ ap (λ (x : ℕ). sets room₀ 0 (convertedTo file x)) e ∙ sets-front room₀ (converted file) (omega arith)
-            ∙ ap (λ (x : ℕ). converted file ++ drop x room₀) s,
-        w .number ∙ ap (borrowersTo file) e,
+        stored-all (w .records) (w .inside) l ∙ sets-front room₀ (converted file) (omega arith) ∙ ap (λ (x : ℕ). converted file ++ drop x room₀) s,
+        w .number ∙ ap (countBelow (borrows file)) (le-antisymm (w .inside) l),
       )

@@ -4,4 +4,5 @@ pub mod Scans
 pub mod Derived
 pub mod Admitted
 pub mod Accepted
+pub mod Numbered
 pub mod Demand

@@ -1,5 +1,5 @@
 // The desk terminal's functions for C: the tree check, the single firing, the check of two category files, the place of a label, the converter of
-// category files with borrowed texts, PNML texts written and read, trees written, and two nets side by side.
+// category files with borrowed texts, PNML texts written and read, trees written, two nets side by side, and tables without dead formula records.
 // Each out-parameter is written at every call.
 ghost use mathlib.Core.Path.{_≡_};
 ghost use lib.ListN.{take, drop};
@@ -15,6 +15,9 @@ ghost use Rattle.pnml_write.specs.Answer as writing;
 ghost use Rattle.pnml_read.specs.Answer as reading;
 ghost use Rattle.tree_answer.specs.Answer as trees;
 ghost use Rattle.tree_answer.specs.Theorem as worth;
+ghost use Rattle.compact_tables.specs.Tables as tables;
+ghost use Rattle.compact_tables.specs.Answer as compacting;
+ghost use Rattle.compact_tables.specs.Theorem as compacts;
 ghost use Rattle.join.specs.Joint as nets;
 ghost use Rattle.join.specs.Answer as joining;
 ghost use Rattle.join.specs.Theorem as joints;
@@ -231,4 +234,36 @@ pub extern "C" fn desk_join(
     *marking = joined.marking;
     *length = joined.length;
     joined.number
+}
+
+// Writes ask, formulas and tree of an accepted tree without the formula records that the asked one does not reach, each at the start of a lent table,
+// whose other bytes stay: 0 with the number of formula records left, or the check's own answer, its number with the record or the node, then 12; a
+// refused call writes nothing. At 0 the new tables are accepted with as many nodes and claim the same.
+#[no_mangle]
+pub extern "C" fn desk_save_room(
+    ask: &[u8],
+    net: &[u8],
+    formulas: &[u8],
+    tree: &[u8],
+    new_ask: &mut [u8],
+    new_formulas: &mut [u8],
+    new_tree: &mut [u8],
+    place: &mut u64,
+    count: &mut u64,
+) -> u32
+    ensures answer { λ r. let a = compacting.compactAnswer (now (ask .entry)) (now (net .entry)) (now (formulas .entry)) (now (tree .entry)) (tables.tables (now («new_ask» .entry)) (now («new_formulas» .entry)) (now («new_tree» .entry))) in ⌜ (r ≡ a .found .number) × (now (place .exit) ≡ a .found .place) × (now (count .exit) ≡ a .count) × (tables.tables (now («new_ask» .exit)) (now («new_formulas» .exit)) (now («new_tree» .exit)) ≡ a .rooms) ⌝ }
+    ensures worth { λ r. ⌜ (r ≡ 0 → compacts.Stands (now (ask .entry)) (now (net .entry)) (now (formulas .entry)) (now (tree .entry)) (tables.compacted (tables.tables (now (ask .entry)) (now (formulas .entry)) (now (tree .entry))))) ⌝ }
+{
+    let said = compact::compact_numbers(compact::compact(
+        ask,
+        net,
+        formulas,
+        tree,
+        new_ask,
+        new_formulas,
+        new_tree,
+    ));
+    *place = said.place;
+    *count = said.count;
+    said.number
 }

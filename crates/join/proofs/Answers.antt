@@ -8,6 +8,7 @@ use lib.ListN.{length, take, drop}
 use lib.Seq.{sets, take-length}
 use lib.Dec.{eqb}
 use borrow.Author.Tests.{le-leb, lt-leb}
+use Rattle.tables.specs.Lists.{laid}
 use Rattle.tables.proofs.Tests.{if-true, if-false}
 use Rattle.tables.proofs.Scans.{or-first, or-second}
 use Rattle.bitset.specs.Sets.{union, shifted}
@@ -18,7 +19,7 @@ use Rattle.net.specs.Table.{transitions}
 use Rattle.net.specs.Answer.{Fault, noFault, fault, orElse, refusal, checked}
 use Rattle.net.proofs.Answers.{refusal-number}
 use Rattle.join.specs.declared.Joined.the-variants.{Done, Refused, Large, Short}
-use Rattle.join.specs.Joint.{Marked, beside, shiftedTo, joint}
+use Rattle.join.specs.Joint.{Marked, beside, shiftedRecord, joint}
 use Rattle.join.specs.Answer.{Answer, refuse, granted, halfFault, sizeFault, roomFault, joinFault, joinAnswer}
 use Rattle.join.specs.Result.{numbersOf, answerOf}
 use Rattle.join.proofs.Fitting.{joint-length}
@@ -79,7 +80,7 @@ module _ (f s : Marked) (room : List ℕ) where
         pub joins : {marking shift : ℕ} {r₁ r₂ : List ℕ} → length (f .bytes) + length (s .bytes) ≤ length room
             → shift ≡ shifted (f .places) (s .marking) → marking ≡ union (f .marking) shift
             → r₁ ≡ sets room 0 (take (length (f .bytes)) (drop 0 (f .bytes)))
-            → r₂ ≡ sets r₁ (length (f .bytes)) (shiftedTo (f .places) (s .bytes) (transitions (s .bytes)))
+            → r₂ ≡ sets r₁ (length (f .bytes)) (laid (shiftedRecord (f .places) (s .bytes)) (transitions (s .bytes)))
             → answerOf (Done (f .places + s .places) marking (length (f .bytes) + length (s .bytes))) r₂ ≡ joinAnswer f s room
         unfolding answerOf numbersOf joinAnswer answered joint beside
         joins {marking} {shift} {r₁} {r₂} h a b c d =
@@ -92,6 +93,6 @@ module _ (f s : Marked) (room : List ℕ) where
 
             stored : r₂ ≡ joint f s .bytes ++ drop (length (joint f s .bytes)) room
             stored =
-                after room 0 (f .bytes) (shiftedTo (f .places) (s .bytes) (transitions (s .bytes))) (omega arith)
+                after room 0 (f .bytes) (laid (shiftedRecord (f .places) (s .bytes)) (transitions (s .bytes))) (omega arith)
                 (c ∙ ap (sets room 0) (take-length (f .bytes))) d
                 ∙ sets-front room (joint f s .bytes) (omega (arith, joint-length f s q))

@@ -7,13 +7,14 @@ use native.Mathlib.Omega.{arith}
 use lib.ListN.{length, length-append}
 use lib.Dec.{leb}
 use borrow.Author.Tests.{leb-true}
+use Rattle.tables.specs.Lists.{laid}
 use Rattle.tables.proofs.Tests.{and-left, and-right}
 use Rattle.bitset.specs.Sets.{within, shifted}
 use Rattle.bitset.proofs.Shifts.{shifted-fits}
 use Rattle.net.specs.Table.{transitions}
 use Rattle.net.specs.Answer.{Fault, noFault, fault}
 use Rattle.net.proofs.Loaded.{Loaded, load-has}
-use Rattle.join.specs.Joint.{Marked, shiftedTo, joint}
+use Rattle.join.specs.Joint.{Marked, shiftedRecord, joint}
 use Rattle.join.specs.Answer.{halfFault, sizeFault}
 use Rattle.join.specs.Serving.{Fits}
 use Rattle.join.proofs.Records.{to-length}
@@ -77,5 +78,5 @@ module _ (f s : Marked) (p : halfFault f ≡ noFault) (q : halfFault s ≡ noFau
 pub joint-length : (f s : Marked) → halfFault s ≡ noFault → length (joint f s .bytes) ≡ length (f .bytes) + length (s .bytes)
 unfolding joint
 joint-length f s q =
-    length-append (f .bytes) (shiftedTo (f .places) (s .bytes) (transitions (s .bytes)))
+    length-append (f .bytes) (laid (shiftedRecord (f .places) (s .bytes)) (transitions (s .bytes)))
     ∙ ap (λ (x : ℕ). length (f .bytes) + x) (to-length (f .places) (s .bytes) (transitions (s .bytes)) (le-refl _) ∙ half-has s q .whole)

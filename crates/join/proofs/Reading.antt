@@ -1,20 +1,20 @@
 -- What is read in the joint records: the first half's numbers as they are, the second's with its sets shifted. Assumes nothing.
-use mathlib.Core.Path.{_≡_, refl, sym, ap, _∙_, subst}
-use mathlib.Core.Logic.{_⊎_, inl, inr}
+use mathlib.Core.Path.{_≡_, refl, sym, ap, _∙_}
 use mathlib.Core.List.{List, _++_}
-use Prim.Native.Nat.{ℕ, zero, suc, _+_, _*_, _^_, _≤_, _<_}
-use native.Mathlib.Nat.{add-zero, le-antisymm, le-of-suc-le-suc, le-refl, not-suc-le-zero}
+use Prim.Native.Nat.{ℕ, _+_, _*_, _^_, _≤_, _<_}
+use native.Mathlib.Nat.{add-zero}
 use native.Mathlib.Omega.{arith}
 use lib.ListN.{length}
 use Rattle.tables.specs.Bytes.{field}
-use Rattle.tables.proofs.Below.{lt-or-ge}
+use Rattle.tables.specs.Lists.{laid}
 use Rattle.tables.proofs.Parts.{field-part, field-before, field-after}
+use Rattle.tables.proofs.Laid.{laid-field}
 use Rattle.bitset.specs.Sets.{shifted}
 use Rattle.stores.specs.Low.{lowBytes}
 use Rattle.stores.proofs.Low.{low-length, little-low}
 use Rattle.net.specs.Table.{preAt, postAt, actionAt, markAt, spareAt, transitions}
-use Rattle.join.specs.Joint.{Marked, shiftedRecord, shiftedTo, joint}
-use Rattle.join.proofs.Records.{inside, rest, to-length}
+use Rattle.join.specs.Joint.{Marked, shiftedRecord, joint}
+use Rattle.join.proofs.Records.{inside, rest, record-length}
 
 module _ (places : ℕ) (bytes : List ℕ) where
   -- ---- in one record of the second half
@@ -43,23 +43,11 @@ module _ (places : ℕ) (bytes : List ℕ) where
         ∙ field-after (lowBytes 8 (shifted places (postAt bytes t))) (rest places bytes t) 8 i k (low-length 8 (shifted places (postAt bytes t)))
         ∙ field-part k i 8 (t * 24 + 16) bytes h
 
-  -- ---- in the first records
+  -- ---- in the table of them
 
-  to-read : (n t : ℕ) → t < n → n ≤ transitions bytes → (k j : ℕ) → j + k ≤ 24
-      → field k (t * 24 + j) (shiftedTo places bytes n) ≡ field k j (shiftedRecord places bytes t)
-  unfolding shiftedTo
-  to-read zero t h m k j l = absurd (not-suc-le-zero h)
-  to-read (suc n) t h m k j l = by (λ p. to-read n t p (omega arith) k j l) (lt-or-ge t n)
-    where
-      by : (t < n → field k (t * 24 + j) (shiftedTo places bytes n) ≡ field k j (shiftedRecord places bytes t)) → (t < n) ⊎ (n ≤ t)
-          → field k (t * 24 + j) (shiftedTo places bytes n ++ shiftedRecord places bytes n) ≡ field k j (shiftedRecord places bytes t)
-      by ih (inl p) =
-          field-before k (t * 24 + j) (shiftedTo places bytes n) (shiftedRecord places bytes n) (omega (arith, to-length places bytes n (omega arith)))
-          ∙ ih p
-      by ih (inr p) =
-          subst (λ (x : ℕ). field k (x * 24 + j) (shiftedTo places bytes n ++ shiftedRecord places bytes n) ≡ field k j (shiftedRecord places bytes x))
-          (le-antisymm p (le-of-suc-le-suc h))
-          (field-after (shiftedTo places bytes n) (shiftedRecord places bytes n) (n * 24) j k (to-length places bytes n (omega arith)))
+  to-read : (t : ℕ) → t < transitions bytes → (k j : ℕ) → j + k ≤ 24
+      → field k (t * 24 + j) (laid (shiftedRecord places bytes) (transitions bytes)) ≡ field k j (shiftedRecord places bytes t)
+  to-read t h k j l = laid-field (shiftedRecord places bytes) 24 (transitions bytes) (record-length places bytes) t h k j l
 
 -- ---- in the joint records, where the first half's table has whole records
 
@@ -69,7 +57,7 @@ module _ (f s : Marked) (whole : transitions (f .bytes) * 24 ≡ length (f .byte
     first-read : (k j : ℕ) → j + k ≤ 24 → field k (t * 24 + j) (joint f s .bytes) ≡ field k (t * 24 + j) (f .bytes)
     unfolding joint
     first-read k j l =
-        field-before k (t * 24 + j) (f .bytes) (shiftedTo (f .places) (s .bytes) (transitions (s .bytes))) (omega (arith, inside (f .places) (f .bytes) t h))
+        field-before k (t * 24 + j) (f .bytes) (laid (shiftedRecord (f .places) (s .bytes)) (transitions (s .bytes))) (omega (arith, inside (f .places) (f .bytes) t h))
 
     pub first-pre : preAt (joint f s .bytes) t ≡ preAt (f .bytes) t
     unfolding preAt
@@ -102,9 +90,9 @@ module _ (f s : Marked) (whole : transitions (f .bytes) * 24 ≡ length (f .byte
     second-read : (k j : ℕ) → j + k ≤ 24 → field k (place * 24 + j) (joint f s .bytes) ≡ field k j (shiftedRecord (f .places) (s .bytes) u)
     unfolding joint
     second-read k j l =
-        ap (λ (x : ℕ). field k x (f .bytes ++ shiftedTo (f .places) (s .bytes) (transitions (s .bytes)))) (omega (arith, whole))
-        ∙ field-after (f .bytes) (shiftedTo (f .places) (s .bytes) (transitions (s .bytes))) (length (f .bytes)) (u * 24 + j) k refl
-        ∙ to-read (f .places) (s .bytes) (transitions (s .bytes)) u h (le-refl _) k j l
+        ap (λ (x : ℕ). field k x (f .bytes ++ laid (shiftedRecord (f .places) (s .bytes)) (transitions (s .bytes)))) (omega (arith, whole))
+        ∙ field-after (f .bytes) (laid (shiftedRecord (f .places) (s .bytes)) (transitions (s .bytes))) (length (f .bytes)) (u * 24 + j) k refl
+        ∙ to-read (f .places) (s .bytes) u h k j l
 
     pub second-pre : shifted (f .places) (preAt (s .bytes) u) < 256 ^ 8
         → preAt (joint f s .bytes) (transitions (f .bytes) + u) ≡ shifted (f .places) (preAt (s .bytes) u)

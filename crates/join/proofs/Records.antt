@@ -1,21 +1,22 @@
--- The records of the second half as they are written: their lengths, and how they are stored one after the other. Assumes nothing.
+-- The records of the second half as they are written: their lengths, and how each is stored. Assumes nothing.
 use mathlib.Core.Path.{_≡_, refl, sym, ap, ap₂, _∙_, subst}
 use mathlib.Core.List.{List, _++_}
-use Prim.Native.Nat.{ℕ, zero, suc, _+_, _*_, _^_, _≤_, _<_}
-use native.Mathlib.Nat.{le-antisymm, suc-mul}
-use native.Mathlib.Numerals.{add-one}
+use Prim.Native.Nat.{ℕ, _+_, _*_, _^_, _≤_, _<_}
+use native.Mathlib.Nat.{lt-of-lt-of-le}
 use native.Mathlib.Omega.{arith}
 use lib.ListN.{length, take, drop, length-append}
-use lib.Seq.{sets, length-sets}
+use lib.Seq.{sets}
 use Rattle.tables.specs.Bytes.{field}
+use Rattle.tables.specs.Lists.{laid}
 use Rattle.tables.proofs.Counts.{record-inside}
 use Rattle.tables.proofs.Parts.{length-part}
+use Rattle.tables.proofs.Laid.{laid-whole}
 use Rattle.bitset.specs.Sets.{shifted}
 use Rattle.stores.specs.Low.{lowBytes}
 use Rattle.stores.proofs.Low.{low-length}
-use Rattle.stores.proofs.Stores.{after, after-low}
+use Rattle.stores.proofs.Stores.{after-low}
 use Rattle.net.specs.Table.{preAt, postAt, transitions}
-use Rattle.join.specs.Joint.{shiftedRecord, shiftedTo}
+use Rattle.join.specs.Joint.{shiftedRecord}
 use Rattle.join.specs.Serving.{Fits}
 
 module _ (places : ℕ) (bytes : List ℕ) where
@@ -73,40 +74,9 @@ module _ (places : ℕ) (bytes : List ℕ) where
 
   -- ---- the first records
 
-  pub to-length : (n : ℕ) → n ≤ transitions bytes → length (shiftedTo places bytes n) ≡ n * 24
-  unfolding shiftedTo
-  to-length zero h = refl
-  to-length (suc n) h =
-      length-append (shiftedTo places bytes n) (shiftedRecord places bytes n)
-      ∙ ap₂ _+_ (to-length n (omega arith)) (record-length n h)
-      ∙ sym (suc-mul n 24)
+  pub to-length : (n : ℕ) → n ≤ transitions bytes → length (laid (shiftedRecord places bytes) n) ≡ n * 24
+  to-length n h = laid-whole (shiftedRecord places bytes) 24 n (λ k l. record-length k (lt-of-lt-of-le l h))
 
--- the first t records are stored from an offset on
-pub record Stored (places : ℕ) (bytes room₀ : List ℕ) (at : ℕ) (room : List ℕ) (t : ℕ) : Type 0 where
-  pub below : t ≤ transitions bytes
-  pub size : length room ≡ length room₀
-  pub stored : room ≡ sets room₀ at (shiftedTo places bytes t)
-
-pub stored-none : (places : ℕ) (bytes room : List ℕ) (at : ℕ) → Stored places bytes room at room 0
-unfolding shiftedTo
-stored-none places bytes room at = record { below = omega arith; size = refl; stored = refl }
-
-module _ {places : ℕ} {bytes room₀ : List ℕ} {at : ℕ} {room : List ℕ} {t : ℕ} (w : Stored places bytes room₀ at room t) where
-  pub stored-next : {r : List ℕ} → t < transitions bytes → r ≡ sets room (at + t * 24) (shiftedRecord places bytes t)
-      → Stored places bytes room₀ at r (t + 1)
-  unfolding shiftedTo
-  stored-next {r} h p =
-      record {
-        below = omega arith;
-        size = ap length p ∙ length-sets room (at + t * 24) (shiftedRecord places bytes t) ∙ w .size;
-        stored = grown ∙ ap (λ (x : ℕ). sets room₀ at (shiftedTo places bytes x)) (sym (add-one t));
-      }
-    where
-      start : at + t * 24 ≡ at + length (shiftedTo places bytes t)
-      start = ap (λ (x : ℕ). at + x) (sym (to-length places bytes t (w .below)))
-
-      grown : r ≡ sets room₀ at (shiftedTo places bytes t ++ shiftedRecord places bytes t)
-      grown = after room₀ at (shiftedTo places bytes t) (shiftedRecord places bytes t) start (w .stored) p
-
-  pub stored-all : transitions bytes ≤ t → room ≡ sets room₀ at (shiftedTo places bytes (transitions bytes))
-  stored-all h = w .stored ∙ ap (λ (x : ℕ). sets room₀ at (shiftedTo places bytes x)) (le-antisymm (w .below) h)
+  -- where the next is stored
+  pub next-place : (at t : ℕ) → t ≤ transitions bytes → at + t * 24 ≡ at + length (laid (shiftedRecord places bytes) t)
+  next-place at t h = ap (λ (x : ℕ). at + x) (sym (to-length t h))

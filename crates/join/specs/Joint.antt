@@ -1,8 +1,9 @@
 -- Two nets side by side (document 02, F-8), their parallel composition: the second's places follow the first's, its transitions follow too,
 -- actions and optional marks are kept. Assumes nothing.
-use Prim.Native.Nat.{ℕ, zero, suc, _+_, _*_}
-use mathlib.Core.List.{List, [], _++_}
+use Prim.Native.Nat.{ℕ, _+_, _*_}
+use mathlib.Core.List.{List, _++_}
 use lib.ListN.{take, drop}
+use Rattle.tables.specs.Lists.{laid}
 use Rattle.bitset.specs.Sets.{union, shifted}
 use Rattle.stores.specs.Low.{lowBytes}
 use Rattle.net.specs.declared.Net.{Net}
@@ -30,16 +31,11 @@ shiftedRecord places bytes t =
     lowBytes 8 (shifted places (preAt bytes t))
     ++ (lowBytes 8 (shifted places (postAt bytes t)) ++ take 8 (drop (t * transitionSize + 16) bytes))
 
--- its first n records
-unfoldable pub shiftedTo : (places : ℕ) (bytes : List ℕ) (n : ℕ) → List ℕ
-shiftedTo places bytes zero = []
-shiftedTo places bytes (suc n) = shiftedTo places bytes n ++ shiftedRecord places bytes n
-
 -- the joint net with its marking
 unfoldable pub joint : (first second : Marked) → Marked
 joint f s =
     record {
       places = f .places + s .places;
       marking = beside (f .places) (f .marking) (s .marking);
-      bytes = f .bytes ++ shiftedTo (f .places) (s .bytes) (transitions (s .bytes));
+      bytes = f .bytes ++ laid (shiftedRecord (f .places) (s .bytes)) (transitions (s .bytes));
     }

@@ -3,6 +3,7 @@ ghost use mathlib.Core.Path.{_≡_};
 ghost use Prim.Native.Nat.{_+_, _*_, _≤_};
 ghost use lib.ListN.{length};
 ghost use lib.Seq.{sets};
+ghost use Rattle.tables.specs.Lists.{laid};
 ghost use Rattle.net.specs.Table.{transitionSize, transitions};
 ghost use Rattle.net.specs.Answer.{noFault};
 ghost use Rattle.join.specs.Joint as joint;
@@ -52,7 +53,7 @@ fn put_record(places: u32, second: &[u8], t: usize, room: &mut [u8], at: usize)
 // Puts all records of the second half from an offset of the room on.
 fn put_records(places: u32, second: &[u8], room: &mut [u8], at: usize)
     requires { ⌜ serving.Fits places (now second) × (at + length (now second) ≤ length (now room)) ⌝ }
-    ensures { λ _. ⌜ now (room .exit) ≡ sets (now (room .entry)) at (joint.shiftedTo places (now (second .entry)) (transitions (now (second .entry)))) ⌝ }
+    ensures { λ _. ⌜ now (room .exit) ≡ sets (now (room .entry)) at (laid (joint.shiftedRecord places (now (second .entry))) (transitions (now (second .entry)))) ⌝ }
 {
     let count = second.len() / RECORD;
     let mut t: usize = 0;

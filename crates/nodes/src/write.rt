@@ -1,4 +1,4 @@
-// Node records, put into lent room.
+// Node records and the ask, put into lent room.
 ghost use mathlib.Core.Path.{_≡_};
 ghost use mathlib.Core.List.{_++_};
 ghost use Prim.Native.Nat.{_+_, _*_, _≤_};
@@ -7,6 +7,7 @@ ghost use lib.Seq.{sets};
 ghost use Rattle.nodes.specs.Nodes as nodes;
 ghost use Rattle.nodes.specs.Written as written;
 ghost use Rattle.stores.specs.Low.{lowBytes};
+use crate::Ask;
 use crate::Node;
 use crate::read;
 
@@ -51,4 +52,15 @@ pub fn put_node(room: &mut [u8], k: usize, n: Node)
     put_links(room, at + 24, n.parent, n.first, s.formula);
     put_codes(room, at + 34, n.children, n.rule, s.side);
     put_codes(room, at + 37, s.phase, s.round, n.transition);
+}
+
+// Puts the ask.
+pub fn put_ask(room: &mut [u8], a: Ask)
+    requires { ⌜ nodes.askSize ≤ length (now room) ⌝ }
+    ensures { λ _. ⌜ now (room .exit) ≡ sets (now (room .entry)) 0 (written.askBytes a) ⌝ }
+{
+    stores::put_bytes(room, 0, 8, a.marking);
+    stores::put_bytes(room, 8, 2, a.formula as u64);
+    stores::put_bytes(room, 10, 1, a.places as u64);
+    stores::put_bytes(room, 11, 1, a.side as u64);
 }

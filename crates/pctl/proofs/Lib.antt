@@ -3,3 +3,4 @@ pub mod Fields
 pub mod Formulas
 pub mod Visits
 pub mod Loops
+pub mod Written

@@ -3,3 +3,4 @@ pub mod Table
 pub mod Formula
 pub mod Meaning
 pub mod Lower
+pub mod Written

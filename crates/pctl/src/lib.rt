@@ -2,8 +2,10 @@
 ghost use mathlib.Core.Path.{_≡_};
 ghost use Prim.Native.Nat.{_+_, _*_, _≤_, _<_};
 ghost use lib.ListN.{length};
+ghost use lib.Seq.{sets};
 ghost use Rattle.tables.specs.Lists as lists;
 ghost use Rattle.pctl.specs.Table as table;
+ghost use Rattle.pctl.specs.Written as written;
 use tables::RecordCount;
 
 // The bytes of a formula record.
@@ -41,6 +43,33 @@ pub fn formula_at(formulas: &[u8], i: usize) -> FormulaRecord
     }
 }
 
+// Puts record k into lent room.
+pub fn put_formula(room: &mut [u8], k: usize, r: FormulaRecord)
+    requires { ⌜ k * table.formulaSize + table.formulaSize ≤ length (now room) ⌝ }
+    ensures { λ _. ⌜ now (room .exit) ≡ sets (now (room .entry)) (k * table.formulaSize) (written.formulaBytes r) ⌝ }
+{
+    let at = k * RECORD;
+    stores::put_bytes(room, at, 1, r.operator as u64);
+    stores::put_bytes(room, at + 1, 1, 0);
+    stores::put_bytes(room, at + 2, 2, r.left as u64);
+    stores::put_bytes(room, at + 4, 2, r.right as u64);
+    stores::put_bytes(room, at + 6, 2, r.action as u64);
+}
+
+// Whether an operator has a left operand.
+pub fn has_left(operator: u8) -> bool
+    ensures { λ r. ⌜ r ≡ table.hasLeft operator ⌝ }
+{
+    1 <= operator
+}
+
+// Whether an operator has a right operand.
+pub fn has_right(operator: u8) -> bool
+    ensures { λ r. ⌜ r ≡ table.hasRight operator ⌝ }
+{
+    (operator == 2) | (4 <= operator)
+}
+
 // Whether an operand names a lower record, or is zero where the operator has no such operand.
 fn operand_good(has: bool, i: usize, operand: u16) -> bool
     ensures { λ r. ⌜ r ≡ table.operandGood has i operand ⌝ }
@@ -59,8 +88,8 @@ fn record_bad(formulas: &[u8], i: usize) -> bool
     let spare = formulas[i * RECORD + 1];
     let f = formula_at(formulas, i);
     let op = f.operator;
-    let left = operand_good(1 <= op, i, f.left);
-    let right = operand_good((op == 2) | (4 <= op), i, f.right);
+    let left = operand_good(has_left(op), i, f.left);
+    let right = operand_good(has_right(op), i, f.right);
     !((op <= 5) & (spare == 0) & left & right & ((op == 3) | (f.action == 0)))
 }
 

@@ -2,3 +2,4 @@
 pub mod Low
 pub mod Stores
 pub mod Copies
+pub mod Laid

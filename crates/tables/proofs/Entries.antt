@@ -33,7 +33,7 @@ tab-ext f g (suc n) h =
     ap₂ _∷_ (h 0 (suc-le-suc zero-le)) (tab-ext (λ i. f (suc i)) (λ i. g (suc i)) n (λ i p. h (suc i) (suc-le-suc p)))
 
 -- storing f n at n
-tab-set : (f g : ℕ → ℕ) (n k : ℕ) → n < k → ((i : ℕ) → (i ≡ n → ⊥) → f i ≡ g i) → set (tab f k) n (g n) ≡ tab g k
+pub tab-set : (f g : ℕ → ℕ) (n k : ℕ) → n < k → ((i : ℕ) → (i ≡ n → ⊥) → f i ≡ g i) → set (tab f k) n (g n) ≡ tab g k
 unfolding tab
 tab-set f g n zero h e = absurd (not-suc-le-zero h)
 tab-set f g zero (suc k) h e = ap₂ _∷_ refl (tab-ext (λ i. f (suc i)) (λ i. g (suc i)) k (λ i _. e (suc i) (λ q. omega arith)))

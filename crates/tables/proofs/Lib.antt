@@ -6,3 +6,4 @@ pub mod Below
 pub mod Counts
 pub mod Scans
 pub mod Parts
+pub mod Laid

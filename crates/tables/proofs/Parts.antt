@@ -1,9 +1,9 @@
 -- Parts of a list, and one list after another: lengths, entries, and the numbers that are read there. Assumes nothing.
 use mathlib.Core.Path.{_≡_, refl, sym, ap, ap₂, _∙_}
-use mathlib.Core.List.{List, _++_}
+use mathlib.Core.List.{List, [], _++_}
 use Prim.Native.Nat.{ℕ, zero, suc, _+_, _-_, _*_, _≤_, _<_}
 use native.Mathlib.Omega.{arith}
-use lib.ListN.{length, getD, take, drop, length-take, length-drop, List·getD-append}
+use lib.ListN.{length, getD, take, drop, length-take, length-drop, drop-of-length-le, List·getD-append}
 use lib.Seq.{drop-drop, drop-at, getD-append-add, getD-drop, getD-take}
 use Rattle.tables.specs.Bytes.{little, field}
 
@@ -50,3 +50,12 @@ field-before n at a b h = field-same n at at (a ++ b) a (λ k p. List·getD-appe
 pub field-after : (a l : List ℕ) (at off w : ℕ) → length a ≡ at → field w (at + off) (a ++ l) ≡ field w off l
 unfolding field
 field-after a l at off w e = ap (little w) (sym (drop-drop off at (a ++ l)) ∙ ap (drop off) (drop-at a l at e))
+
+-- past the end
+pub field-past : (n at : ℕ) (l : List ℕ) → length l ≤ at → field n at l ≡ 0
+unfolding field little
+field-past n at l h = ap (little n) (drop-of-length-le l h) ∙ little-none n
+  where
+    little-none : (m : ℕ) → little m [] ≡ 0
+    little-none zero = refl
+    little-none (suc m) = ap (λ (x : ℕ). 0 + 256 * x) (little-none m)

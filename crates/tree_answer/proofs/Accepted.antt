@@ -2,12 +2,12 @@
 use mathlib.Core.Path.{_≡_, refl, sym, ap, _∙_, subst}
 use mathlib.Core.Bool.{Bool, true, false, cond, _&&_}
 use mathlib.Core.List.{List, [], _∷_, _++_, append-nil}
-use Prim.Native.Nat.{ℕ, _+_, _*_, _/_, _%_, _≤_, _<_}
+use Prim.Native.Nat.{ℕ, _*_, _/_, _%_, _≤_, _<_}
 use native.Mathlib.Omega.{arith}
 use lib.ListN.{length, getD, drop}
 use lib.Seq.{take-at}
-use lib.Dec.{eqb, leb, ltb}
-use borrow.Author.Tests.{eq-eqb, eqb-true, eqb-false, le-leb, leb-true, ltb-true, not-false}
+use lib.Dec.{eqb, leb}
+use borrow.Author.Tests.{eq-eqb, eqb-true, eqb-false, le-leb, leb-true, not-false}
 use Rattle.bitset.specs.Sets.{within}
 use Rattle.tables.specs.Sizes.{sized}
 use Rattle.tables.specs.Faults.{fault, orElse}
@@ -29,7 +29,7 @@ use Rattle.faults.specs.Faults.{rootGood, faultAt}
 use Rattle.checker.specs.Outcomes.{askGood, treeSized, askInside, lastFault, restFault, inputFault, outcome, netFor, checkOutcome}
 use Rattle.checker.specs.Demand.{AskClaim, AcceptedIsTrue}
 use Rattle.checker.proofs.Derived.{test-passed, agree-at}
-use Rattle.checker.proofs.Admitted.{Admitted, input-passed}
+use Rattle.checker.proofs.Admitted.{Admitted, ask-whole, inside-both, input-passed}
 use Rattle.checker.proofs.Accepted.{passed-accepted}
 use Rattle.checker.proofs.Demand.{accepted-is-true}
 use Rattle.tree_shape.specs.Evaluation.{untilFree}
@@ -120,13 +120,6 @@ admits ask net F tree a =
     post-within : (t : ℕ) → t < transitions net → within (askOf ask .places) (postAt net t) ≡ true
     post-within t l = within-post (askOf ask .places) net t (a .net-records t l)
 
--- a good ask has the bytes of an ask
-ask-long : (ask : List ℕ) → askGood ask ≡ true → length ask ≡ askSize
-unfolding askGood
-ask-long ask h =
-    eqb-true (length ask) askSize
-    (and-left (eqb (length ask) askSize) (placesGood (askOf ask .places)) (and-left (eqb (length ask) askSize && placesGood (askOf ask .places)) (leb (askOf ask .side) 1) h))
-
 -- the ask with another side is admitted too
 side-admitted : (ask net F tree : List ℕ) (side : ℕ) → side ≤ 1 → Admitted ask net F tree → Admitted (withSide ask side) net F tree
 unfolding askGood askInside
@@ -146,7 +139,7 @@ side-admitted ask net F tree side h a =
     }
   where
     long : length ask ≡ askSize
-    long = ask-long ask (a .ask-good)
+    long = ask-whole ask (a .ask-good)
 
     e : askOf (withSide ask side) ≡ record { marking = askOf ask .marking; formula = askOf ask .formula; places = askOf ask .places; side = side }
     e = with-side ask side long
@@ -172,12 +165,7 @@ module _ (ask net F : List ℕ) (number : askedFault ask net F .number ≡ 0) (f
     admitted = input-passed ask net F (tableOf T) (ap (λ f. f .number) (asked-input ask net F (tableOf T) (table-sized T one few)) ∙ number)
 
     inside : (within (askOf ask .places) (askOf ask .marking) ≡ true) × (askOf ask .formula < formulas F)
-    unfolding askInside
-    inside =
-        let both = admitted .ask-inside in (
-          and-left (within (askOf ask .places) (askOf ask .marking)) (ltb (askOf ask .formula) (formulas F)) both,
-          ltb-true _ _ (and-right (within (askOf ask .places) (askOf ask .marking)) (ltb (askOf ask .formula) (formulas F)) both),
-        )
+    inside = inside-both (askOf ask) F (admitted .ask-inside)
 
     right : Right N F T
     unfolding T N netFor netOf
@@ -203,7 +191,7 @@ module _ (ask net F : List ℕ) (number : askedFault ask net F .number ≡ 0) (f
 
     asked-is : askOf (withSide ask side) ≡ asked
     unfolding asked
-    asked-is = with-side ask side (ask-long ask (admitted .ask-good))
+    asked-is = with-side ask side (ask-whole ask (admitted .ask-good))
 
     root : sequentAt (tableOf T) 0 ≡ clean side (askOf ask .formula) (askOf ask .marking)
     unfolding T side

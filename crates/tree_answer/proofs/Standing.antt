@@ -8,7 +8,7 @@ use native.Mathlib.Omega.{arith}
 use lib.ListN.{length, length-append}
 use lib.Pow.{pow-mono}
 use lib.Dec.{eqb}
-use borrow.Author.Tests.{ltb-true, eq-eqb}
+use borrow.Author.Tests.{ltb-true}
 use Rattle.bitset.specs.Sets.{within}
 use Rattle.tables.proofs.Tests.{and-intro}
 use Rattle.net.specs.declared.Net.{Net}
@@ -20,6 +20,7 @@ use Rattle.nodes.specs.Nodes.{nodeSize, nodeAt}
 use Rattle.nodes.specs.Written.{nodeBytes}
 use Rattle.nodes.proofs.Written.{node-length, NodeFits, node-read}
 use Rattle.family.specs.Family.{same, agree}
+use Rattle.checker.proofs.Derived.{same-self}
 use Rattle.tree_shape.specs.Trees.{Trees, roots, size, nodeOf, heads, belows}
 use Rattle.tree_shape.specs.Trees.Trees.{node}
 use Rattle.tree_shape.proofs.Laid.{heads-length, belows-length, roots-size}
@@ -101,18 +102,6 @@ module _ (table : List ℕ) (s : Sequent) (rule t : ℕ) (kids beside : Trees) (
 
       long : length (belows kids free (free + roots kids)) ≡ rest * nodeSize
       long = let h = roots-size kids in let b = belows-length kids free (free + roots kids) in omega arith
-
--- a sequent is the same as itself
-same-self : (s : Sequent) → same s s ≡ true
-unfolding same
-same-self s =
-    and-intro _ _
-    (and-intro _ _
-    (and-intro _ _
-    (and-intro _ _ (and-intro _ _ (and-intro _ _ (eq-eqb (s .marking) _ refl) (eq-eqb (s .anchor) _ refl)) (eq-eqb (s .kept) _ refl)) (eq-eqb (s .formula) _ refl))
-    (eq-eqb (s .side) _ refl))
-    (eq-eqb (s .phase) _ refl))
-    (eq-eqb (s .round) _ refl)
 
 -- ---- what a right tree's nodes are in the table
 

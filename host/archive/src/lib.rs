@@ -99,6 +99,24 @@ mod c {
             marking: *mut u64,
             length: *mut u64,
         ) -> u32;
+        pub fn desk_save_room(
+            ask: *const u8,
+            ask_len: usize,
+            net: *const u8,
+            net_len: usize,
+            formulas: *const u8,
+            formulas_len: usize,
+            tree: *const u8,
+            tree_len: usize,
+            new_ask: *mut u8,
+            new_ask_len: usize,
+            new_formulas: *mut u8,
+            new_formulas_len: usize,
+            new_tree: *mut u8,
+            new_tree_len: usize,
+            place: *mut u64,
+            count: *mut u64,
+        ) -> u32;
     }
 }
 
@@ -308,4 +326,40 @@ pub fn join(
         )
     };
     (number, record, places, marking, length)
+}
+
+/// The number, the place and the count. The rooms are those for the ask, the formula table
+/// and the tree.
+pub fn save_room(
+    ask: &[u8],
+    net: &[u8],
+    formulas: &[u8],
+    tree: &[u8],
+    rooms: [&mut [u8]; 3],
+) -> (u32, u64, u64) {
+    let [new_ask, new_formulas, new_tree] = rooms;
+    let mut place = UNWRITTEN;
+    let mut count = UNWRITTEN;
+    // SAFETY: as in `check`.
+    let number = unsafe {
+        c::desk_save_room(
+            ask.as_ptr(),
+            ask.len(),
+            net.as_ptr(),
+            net.len(),
+            formulas.as_ptr(),
+            formulas.len(),
+            tree.as_ptr(),
+            tree.len(),
+            new_ask.as_mut_ptr(),
+            new_ask.len(),
+            new_formulas.as_mut_ptr(),
+            new_formulas.len(),
+            new_tree.as_mut_ptr(),
+            new_tree.len(),
+            &mut place,
+            &mut count,
+        )
+    };
+    (number, place, count)
 }

@@ -9,9 +9,11 @@ use generate::categories::{borrower, named};
 use generate::encode::{self, Transition};
 use generate::families::{self, NET_R};
 use generate::nets::LentNet;
+use generate::prng::Prng;
+use generate::saved::spread;
 use generate::written::{self as claims, WrittenCase};
 use reference::category::CATEGORIES;
-use reference::{Refusal, category, check, converted, joined, net, pnml, written};
+use reference::{Refusal, category, check, converted, joined, net, pnml, saved, written};
 
 type Call = Box<dyn Fn() -> u64>;
 
@@ -31,7 +33,7 @@ impl Bench {
 /// A name and what makes the case.
 type Named = (&'static str, fn() -> Bench);
 
-pub const CASES: [Named; 40] = [
+pub const CASES: [Named; 53] = [
     ("tree: R, 23 nodes", || tree_bench(families::r_holds())),
     ("tree: trail of 32767", || {
         tree_bench(families::trail_chain(32_767))
@@ -124,6 +126,33 @@ pub const CASES: [Named; 40] = [
     ("joined: 32 and 32", || join_bench(ring_of(32), ring_of(32))),
     ("joined: 33 and 32, 15", || {
         join_bench(ring_of(33), ring_of(32))
+    }),
+    ("tree: R, dead", || tree_bench(dead(families::r_holds()))),
+    ("tree: operator 2, dead", || {
+        tree_bench(dead(families::and_tree(16)))
+    }),
+    ("tree: 2048 times R", || tree_bench(families::r_copies(11))),
+    ("tree: 2048 times R, dead", || {
+        tree_bench(dead(families::r_copies(11)))
+    }),
+    ("tree: rings, dead", || {
+        tree_bench(dead(families::realistic()))
+    }),
+    ("saved: R, 23 nodes", || save_bench(families::r_holds())),
+    ("saved: R, dead", || save_bench(dead(families::r_holds()))),
+    ("saved: operator 2", || save_bench(families::and_tree(16))),
+    ("saved: operator 2, dead", || {
+        save_bench(dead(families::and_tree(16)))
+    }),
+    ("saved: 2048 times R", || save_bench(families::r_copies(11))),
+    ("saved: 2048 times R, dead", || {
+        save_bench(dead(families::r_copies(11)))
+    }),
+    ("saved: rings, operator 5", || {
+        save_bench(families::realistic())
+    }),
+    ("saved: rings, dead", || {
+        save_bench(dead(families::realistic()))
     }),
 ];
 
@@ -394,6 +423,38 @@ pub fn join_bench(first: LentNet, second: LentNet) -> Bench {
                 |refusal| two(refusal.number, refusal.record),
                 |joined| two(joined.places, joined.marking ^ joined.length as u64),
             )
+        }),
+    }
+}
+
+/// The case with the formula records spread over so many, the others dead.
+pub fn spread_over(records: usize, mut case: TreeCase) -> TreeCase {
+    spread(&mut Prng::new(1), &mut case, records);
+    case
+}
+
+/// The same with as many as a table can have.
+fn dead(case: TreeCase) -> TreeCase {
+    spread_over(256, case)
+}
+
+pub fn save_bench(case: TreeCase) -> Bench {
+    let copy = case.clone();
+    let rooms = RefCell::new([&case.ask, &case.formulas, &case.tree].map(Vec::clone));
+    let rooms_copy = rooms.clone();
+    Bench {
+        archive: Box::new(move || {
+            let (case, mut rooms) = (black_box(&case), rooms.borrow_mut());
+            let rooms = rooms.each_mut().map(|room| black_box(&mut room[..]));
+            let answer =
+                archive::save_room(&case.ask, &case.net, &case.formulas, &case.tree, rooms);
+            two(answer.0, answer.1 ^ answer.2)
+        }),
+        reference: Box::new(move || {
+            let (case, mut rooms) = (black_box(&copy), rooms_copy.borrow_mut());
+            let rooms = rooms.each_mut().map(|room| black_box(&mut room[..]));
+            let answer = saved::save(&case.ask, &case.net, &case.formulas, &case.tree, rooms);
+            answer.unwrap_or_else(|refusal| two(refusal.number, refusal.record))
         }),
     }
 }

@@ -5,7 +5,8 @@
 //! bench one CASE SIDE TIMES        one case on one side (archive, reference)
 //! bench growth                     cost by nodes, depth and transitions, by length
 //!                                  of text, of written trees by nodes and steps, of
-//!                                  converted files and of joint nets by records
+//!                                  converted files and of joint nets by records, of
+//!                                  room saved by nodes and by formula records
 //! bench tables FOLDER              the tables of the cases as files, for pair/
 
 mod cases;
@@ -14,8 +15,8 @@ mod measure;
 use std::path::Path;
 
 use cases::{
-    Bench, CASES, convert_bench, join_bench, lent_file, net_of, read_bench, ring_of, text,
-    tree_bench, write_bench, written_bench,
+    Bench, CASES, convert_bench, join_bench, lent_file, net_of, read_bench, ring_of, save_bench,
+    spread_over, text, tree_bench, write_bench, written_bench,
 };
 use generate::cases::TreeCase;
 use generate::families;
@@ -103,6 +104,15 @@ fn growth() {
     println!("by records joined (two rings, half of them in each)");
     let rings = [1, 2, 4, 8, 16, 32].map(|n| (2 * n, join_bench(ring_of(n), ring_of(n))));
     grow_parts("record", rings);
+    println!("by nodes, room saved (operator 2 only, 256 formula records)");
+    let trees = [8, 10, 12, 14, 16].map(|levels| {
+        let case = spread_over(256, families::and_tree(levels));
+        (1 << levels, save_bench(case))
+    });
+    grow_parts("node", trees);
+    println!("by formula records, room saved (R, 23 nodes)");
+    let tables = [3, 16, 64, 256].map(|n| (n, save_bench(spread_over(n, families::r_holds()))));
+    grow_parts("record", tables);
 }
 
 /// The text of a net with all arcs of the first transitions.

@@ -8,6 +8,7 @@ use generate::firings::FiringCase;
 use generate::joined::JoinCase;
 use generate::nets::LentNet;
 use generate::pnml::{ReadCase, WriteCase};
+use generate::saved::SaveCase;
 use generate::written::WrittenCase;
 use reference::check::Verdict;
 use reference::{category, check};
@@ -17,6 +18,7 @@ use crate::drawings;
 use crate::firings;
 use crate::joined;
 use crate::rooms::Answer;
+use crate::saved;
 use crate::written;
 
 pub fn hex(bytes: &[u8]) -> String {
@@ -34,10 +36,16 @@ pub fn bytes(hex: &str) -> Vec<u8> {
     (0..hex.len()).step_by(2).map(byte).collect()
 }
 
+/// The four tables of a tree.
+fn tables(case: &TreeCase) -> String {
+    let tables = [&case.ask, &case.net, &case.formulas, &case.tree];
+    tables.map(|t| hex(t)).join(" ")
+}
+
 pub fn tree(case: &TreeCase, expected: (u32, u64), found: (u32, u64)) -> String {
-    let tables = [&case.ask, &case.net, &case.formulas, &case.tree].map(|t| hex(t));
+    let tables = tables(case);
     let (expected, found) = (verdict(expected), verdict(found));
-    format!("tree {} = {expected} but {found}", tables.join(" "))
+    format!("tree {tables} = {expected} but {found}")
 }
 
 /// The first action whose answers differ.
@@ -95,6 +103,11 @@ pub fn joined(case: &JoinCase, expected: &Answer, found: &Answer) -> String {
     format!("joined {nets} {room} = {expected} but {found}")
 }
 
+pub fn saved(case: &SaveCase, expected: &Answer, found: &Answer) -> String {
+    let (tables, [ask, formulas, tree]) = (tables(&case.tables), case.rooms);
+    format!("saved {tables} {ask} {formulas} {tree} = {expected} but {found}")
+}
+
 /// A firing's answer, and the same without the sets.
 fn five((number, record, after, missing, occupied): firings::Answer) -> String {
     format!("{number} {record} {after} {missing} {occupied}")
@@ -136,15 +149,26 @@ fn archive_labels(translation: &[u8], house: &[u8], action: u16) -> String {
     format!("{number} {record} {file} {offset} {length}")
 }
 
+/// The four tables that a line's fields begin with.
+fn tree_case(fields: &[&str]) -> TreeCase {
+    let [ask, net, formulas, tree] = [0, 1, 2, 3].map(|i| bytes(fields[i]));
+    TreeCase {
+        ask,
+        net,
+        formulas,
+        tree,
+    }
+}
+
 /// The archive's and the reference's answer to a line's input. A line of the kind "fired"
 /// is a firing's, without the sets.
 fn answers(kind: &str, input: &str) -> (String, String) {
     let fields: Vec<&str> = input.split(' ').collect();
     match kind {
         "tree" => {
-            let t: Vec<Vec<u8>> = fields.iter().map(|f| bytes(f)).collect();
-            let found = archive::check(&t[0], &t[1], &t[2], &t[3]);
-            let expected = check::check(&t[0], &t[1], &t[2], &t[3]);
+            let t = tree_case(&fields);
+            let found = archive::check(&t.ask, &t.net, &t.formulas, &t.tree);
+            let expected = check::check(&t.ask, &t.net, &t.formulas, &t.tree);
             (verdict(found), expected.to_string())
         }
         "label" => {
@@ -211,6 +235,15 @@ fn answers(kind: &str, input: &str) -> (String, String) {
             let expected = joined::reference_net(&case);
             (found.to_string(), expected.to_string())
         }
+        "saved" => {
+            let case = SaveCase {
+                tables: tree_case(&fields),
+                rooms: [4, 5, 6].map(|i| fields[i].parse().expect("a room")),
+            };
+            let found = saved::archive_tables(&case);
+            let expected = saved::reference_tables(&case);
+            (found.to_string(), expected.to_string())
+        }
         _ => {
             let case = FiringCase {
                 places: fields[0].parse().expect("places"),
@@ -227,7 +260,7 @@ fn answers(kind: &str, input: &str) -> (String, String) {
 }
 
 /// What the lines begin with.
-const KINDS: [&str; 8] = [
+const KINDS: [&str; 9] = [
     "tree ",
     "label ",
     "firing ",
@@ -236,6 +269,7 @@ const KINDS: [&str; 8] = [
     "written ",
     "converted ",
     "joined ",
+    "saved ",
 ];
 
 /// Compares the archive with every line of the vectors.
@@ -255,6 +289,7 @@ pub fn vectors(folder: &str) -> ExitCode {
         ("label", "labels_6"),
         ("firing", "firings_7"),
         ("joined", "joined"),
+        ("saved", "saved"),
     ] {
         let path = format!("{folder}/{name}.txt");
         let text = std::fs::read_to_string(&path).expect("the vectors are readable");

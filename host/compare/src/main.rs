@@ -12,6 +12,7 @@ mod joined;
 mod lines;
 mod programs;
 mod rooms;
+mod saved;
 mod tally;
 mod written;
 
@@ -25,6 +26,7 @@ use generate::firings::FiringCase;
 use generate::joined::{JoinCase, join_case};
 use generate::pnml::{ReadCase, WriteCase, read_case, write_case};
 use generate::prng::Prng;
+use generate::saved::{SaveCase, save_case};
 use generate::written::{WrittenCase, written_case};
 use reference::check::{Input, NODE, Node};
 use reference::meaning::{Graph, evaluate};
@@ -38,10 +40,11 @@ const MARKINGS: usize = 3000;
 /// Of so many cases, one more is a net to write and one a text to read.
 const DRAWINGS: u64 = 8;
 /// Of so many cases, one more is a claim whose tree is written, one a category file to
-/// convert, and one a pair of nets to join.
+/// convert, one a pair of nets to join, and one a tree whose formula table is saved room in.
 const CLAIMS: u64 = 5;
 const CONVERSIONS: u64 = 5;
 const JOINS: u64 = 5;
+const SAVES: u64 = 5;
 
 fn main() -> ExitCode {
     let arguments: Vec<String> = std::env::args().skip(1).collect();
@@ -73,6 +76,7 @@ fn generated(cases: u64, seed: u64) -> ExitCode {
     let mut claims = Prng::new(seed);
     let mut conversions = Prng::new(seed);
     let mut joins = Prng::new(seed);
+    let mut saves = Prng::new(seed);
     let mut tally = Tally::default();
     for case in 0..cases {
         if case % DRAWINGS == 0 {
@@ -87,6 +91,9 @@ fn generated(cases: u64, seed: u64) -> ExitCode {
         }
         if case % JOINS == 0 {
             compare_joined(&mut tally, &join_case(&mut joins));
+        }
+        if case % SAVES == 0 {
+            compare_saved(&mut tally, &save_case(&mut saves));
         }
         match generator.case() {
             Case::Tree(kind, case) => compare_tree(&mut tally, kind, &case),
@@ -261,5 +268,19 @@ fn compare_joined(tally: &mut Tally, case: &JoinCase) {
     }
     if found.number() == 0 && !joined::as_in_the_halves(case, &found) {
         tally.unlike(size, line);
+    }
+}
+
+fn compare_saved(tally: &mut Tally, case: &SaveCase) {
+    let expected = saved::reference_tables(case);
+    let found = saved::archive_tables(case);
+    tally.saved(expected.number(), saved::shown(case, expected.number()));
+    let size = size(&case.tables);
+    let line = || lines::saved(case, &expected, &found);
+    if found != expected {
+        tally.difference(size, line);
+    }
+    if found.number() == 0 && !saved::stands(case, &found) {
+        tally.unsaved(size, line);
     }
 }

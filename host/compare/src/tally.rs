@@ -4,7 +4,7 @@ use generate::cases::{KINDS, Kind};
 use reference::rules::RULES;
 
 use crate::firings::REASONS;
-use crate::joined::SHOWN;
+use crate::{joined, saved};
 
 /// The answers that must occur.
 const ANSWERS: [u32; 19] = [
@@ -25,6 +25,9 @@ const BORROWED: [u32; 3] = [0, 10, 12];
 
 /// The answers of the join that must occur.
 const JOINED: [u32; 7] = [0, 1, 2, 3, 7, 12, 15];
+
+/// The answers of saving room that must occur.
+const SAVED: [u32; 16] = [0, 1, 2, 3, 4, 5, 6, 7, 12, 20, 21, 22, 23, 24, 25, 26];
 
 /// The rules that depend on what is pressed, all of which must occur in accepted
 /// trees at markings where an optional transition is enabled.
@@ -178,7 +181,10 @@ pub struct Tally {
     borrowed_converted: Counts,
     joined: Counts,
     /// How many pairs of nets show each of what they can.
-    joined_shown: Shown<{ SHOWN.len() }>,
+    joined_shown: Shown<{ joined::SHOWN.len() }>,
+    saved: Counts,
+    /// How many cases of saving room show each of what they can.
+    saved_shown: Shown<{ saved::SHOWN.len() }>,
     pub evaluated: u64,
     pub unevaluated: u64,
     pub refused_valid: u64,
@@ -190,6 +196,7 @@ pub struct Tally {
     unserved: Findings,
     unfit: Findings,
     unlike: Findings,
+    unsaved: Findings,
 }
 
 impl Tally {
@@ -241,9 +248,14 @@ impl Tally {
         }
     }
 
-    pub fn joined(&mut self, number: u32, shown: [bool; SHOWN.len()]) {
+    pub fn joined(&mut self, number: u32, shown: [bool; joined::SHOWN.len()]) {
         self.joined.add(number);
         self.joined_shown.add(shown);
+    }
+
+    pub fn saved(&mut self, number: u32, shown: [bool; saved::SHOWN.len()]) {
+        self.saved.add(number);
+        self.saved_shown.add(shown);
     }
 
     /// A rule of an accepted tree, at a marking where an optional transition is
@@ -276,6 +288,11 @@ impl Tally {
     /// A joint net of the archive that fires otherwise than its halves.
     pub fn unlike(&mut self, size: usize, line: impl Fn() -> String) {
         self.unlike.add(size, line);
+    }
+
+    /// New tables of the archive that it does not accept, or that change once more.
+    pub fn unsaved(&mut self, size: usize, line: impl Fn() -> String) {
+        self.unsaved.add(size, line);
     }
 
     pub fn print(&self) {
@@ -316,7 +333,9 @@ impl Tally {
             self.borrowed_converted.text(&BORROWED)
         );
         println!("  nets joined: {}", self.joined.text(&JOINED));
-        println!("  of these: {}", self.joined_shown.text(&SHOWN));
+        println!("  of these: {}", self.joined_shown.text(&joined::SHOWN));
+        println!("  room saved: {}", self.saved.text(&SAVED));
+        println!("  of these: {}", self.saved_shown.text(&saved::SHOWN));
         println!(
             "accepted trees with the meaning evaluated: {}, graph too large: {}",
             self.evaluated, self.unevaluated
@@ -337,6 +356,7 @@ impl Tally {
         self.unserved.print("against the file before");
         self.unfit.print("sets that cannot be");
         self.unlike.print("otherwise than the halves");
+        self.unsaved.print("against the tables before");
         self.differences.print("difference");
         println!(
             "accepted against the meaning: {}",
@@ -345,6 +365,7 @@ impl Tally {
         println!("against the file before: {}", self.unserved.count);
         println!("sets that cannot be: {}", self.unfit.count);
         println!("otherwise than the halves: {}", self.unlike.count);
+        println!("against the tables before: {}", self.unsaved.count);
         println!("differences: {}", self.differences.count);
     }
 
@@ -376,7 +397,9 @@ impl Tally {
         missing.extend(self.converted.missing("converter's answer", &CONVERTED));
         missing.extend(self.reasons.missing("answer 41", &REASONS));
         missing.extend(self.joined.missing("join's answer", &JOINED));
-        missing.extend(self.joined_shown.missing("join", &SHOWN));
+        missing.extend(self.joined_shown.missing("join", &joined::SHOWN));
+        missing.extend(self.saved.missing("saving's answer", &SAVED));
+        missing.extend(self.saved_shown.missing("saving", &saved::SHOWN));
         if self.retired == 0 {
             missing.push("answer 10 for kind 1 alone".to_owned());
         }
@@ -389,6 +412,7 @@ impl Tally {
             && self.unserved.count == 0
             && self.unfit.count == 0
             && self.unlike.count == 0
+            && self.unsaved.count == 0
             && self.stuck == 0
             && self.refused_valid == 0
             && self.missing().is_empty()

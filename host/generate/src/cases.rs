@@ -18,7 +18,7 @@ use crate::search::{Built, Model, Outcome, deviate, prove, swerve};
 use crate::settings::{formulas, optional, setting};
 
 /// The four tables of a tree check.
-#[derive(Clone)]
+#[derive(Clone, Debug, PartialEq, Eq)]
 pub struct TreeCase {
     pub ask: Vec<u8>,
     pub net: Vec<u8>,
@@ -104,38 +104,18 @@ impl Generator {
 
     /// Trees for some claims on one random net.
     fn search(&mut self) {
-        let rng = &mut self.rng;
-        let setting = setting(rng);
-        let formulas = formulas(rng, &setting);
-        let net_bytes = setting.net();
-        let net = Net::decode(setting.places, &net_bytes).expect("a good net");
-        let Some(model) = Model::new(net, formulas, setting.marking, MARKINGS) else {
+        let Some((model, net)) = model(&mut self.rng) else {
             self.too_many_markings += 1;
             return;
         };
         for _ in 0..3 {
-            self.claim(&model, &net_bytes);
+            self.claim(&model, &net);
         }
     }
 
     fn claim(&mut self, model: &Model, net: &[u8]) {
-        let rng = &mut self.rng;
-        let formula = asked(rng, model);
-        let marking = model.graph.markings[0];
-        let side = u8::from(!model.holds(formula, 0));
-        let claim = Sequent {
-            marking,
-            formula,
-            side,
-            ..Sequent::default()
-        };
-        let budget = match rng.below(100) {
-            0 => NODES,
-            1..=5 => 6000,
-            _ => 500,
-        };
-        let outcome = prove(model, rng, claim, budget);
-        match outcome {
+        let claim = true_claim(&mut self.rng, model);
+        match proof(&mut self.rng, model, claim) {
             Outcome::Found(built) => self.add(model, net, claim, &built, Kind::Valid, 4),
             Outcome::TooLarge => self.too_large += 1,
             Outcome::Stuck => self.stuck += 1,
@@ -149,7 +129,7 @@ impl Generator {
         for _ in 0..2 {
             let wrong = self.rng.percent(60);
             let claim = Sequent {
-                side: side ^ u8::from(wrong),
+                side: claim.side ^ u8::from(wrong),
                 ..claim
             };
             let budget = self.rng.pick(&[20, 60, 200]);
@@ -173,25 +153,68 @@ impl Generator {
             return;
         }
         let rng = &mut self.rng;
-        let order = rng.pick(&[Order::Levels, Order::Depth, Order::Any]);
-        let nodes = lay_out(built, order, rng);
-        let case = TreeCase {
-            ask: encode::ask(&Ask {
-                marking: claim.marking,
-                formula: claim.formula,
-                places: model.net.places as u8,
-                side: claim.side,
-            }),
-            net: net.to_vec(),
-            formulas: encode::formulas(&model.formulas),
-            tree: encode::tree(&nodes),
-        };
+        let case = tables(rng, model, net, claim, built);
         for _ in 0..changes {
             let mut changed = case.clone();
             mutate(rng, &mut changed);
             self.waiting.push_back((Kind::Mutated, changed));
         }
         self.waiting.push_back((kind, case));
+    }
+}
+
+/// A random net at a marking with a formula table, and the net's bytes; nothing where too
+/// many markings are reachable.
+pub(crate) fn model(rng: &mut Prng) -> Option<(Model, Vec<u8>)> {
+    let setting = setting(rng);
+    let formulas = formulas(rng, &setting);
+    let bytes = setting.net();
+    let net = Net::decode(setting.places, &bytes).expect("a good net");
+    let model = Model::new(net, formulas, setting.marking, MARKINGS)?;
+    Some((model, bytes))
+}
+
+/// A true claim at the marking of a model.
+pub(crate) fn true_claim(rng: &mut Prng, model: &Model) -> Sequent {
+    let formula = asked(rng, model);
+    Sequent {
+        marking: model.graph.markings[0],
+        formula,
+        side: u8::from(!model.holds(formula, 0)),
+        ..Sequent::default()
+    }
+}
+
+/// A derivation of a true claim, mostly a small one.
+pub(crate) fn proof(rng: &mut Prng, model: &Model, claim: Sequent) -> Outcome {
+    let budget = match rng.below(100) {
+        0 => NODES,
+        1..=5 => 6000,
+        _ => 500,
+    };
+    prove(model, rng, claim, budget)
+}
+
+/// The tables of a claim with its tree, the nodes in some order.
+pub(crate) fn tables(
+    rng: &mut Prng,
+    model: &Model,
+    net: &[u8],
+    claim: Sequent,
+    built: &[Built],
+) -> TreeCase {
+    let order = rng.pick(&[Order::Levels, Order::Depth, Order::Any]);
+    let nodes = lay_out(built, order, rng);
+    TreeCase {
+        ask: encode::ask(&Ask {
+            marking: claim.marking,
+            formula: claim.formula,
+            places: model.net.places as u8,
+            side: claim.side,
+        }),
+        net: net.to_vec(),
+        formulas: encode::formulas(&model.formulas),
+        tree: encode::tree(&nodes),
     }
 }
 

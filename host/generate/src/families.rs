@@ -388,6 +388,22 @@ pub fn and_tree(levels: u32) -> TreeCase {
     claim.tree(1).expect("the size is known")
 }
 
+/// Operator 2 in `levels` levels over the claim of `r_holds`: 2 to the power of `levels`
+/// copies of its tree, and 24 times as many nodes, less one.
+pub fn r_copies(levels: u16) -> TreeCase {
+    let mut formulas = formulas_r().to_vec();
+    formulas.extend((2..2 + levels).map(|claim| formula(AND, claim, claim, 0)));
+    let claim = Claim {
+        places: 3,
+        net: encode::net(&NET_R),
+        formulas,
+        marking: 3,
+        formula: 2 + levels,
+        side: HOLDS,
+    };
+    claim.tree(0).expect("the size is known")
+}
+
 fn wide_claim(width: usize, transitions: usize) -> Claim {
     let transition = |t: usize| Transition {
         pre: 1 << (t % 32),

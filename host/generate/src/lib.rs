@@ -1,6 +1,6 @@
 //! A seeded generator of cases: trees, category files, single firings, nets as
-//! PNML text, claims whose tree is to be written, category files to convert, and
-//! pairs of nets to be joined.
+//! PNML text, claims whose tree is to be written, category files to convert, pairs
+//! of nets to be joined, and trees whose formula table is to be saved room in.
 
 pub mod cases;
 pub mod categories;
@@ -14,6 +14,7 @@ pub mod nets;
 pub mod pnml;
 pub mod prng;
 pub mod rooms;
+pub mod saved;
 pub mod search;
 pub mod settings;
 pub mod written;

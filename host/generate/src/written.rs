@@ -4,7 +4,7 @@ use reference::check::{Ask, Input, NODE, NODES};
 use reference::formula::{ALL, AND, Formula, NOT, SOME, STEP, TRUE};
 use reference::meaning::Graph;
 use reference::net::below;
-use reference::written::measure;
+use reference::written::{measure, write};
 
 use crate::cases::TreeCase;
 use crate::encode::{self, Transition};
@@ -21,6 +21,28 @@ pub struct WrittenCase {
     pub net: Vec<u8>,
     pub formulas: Vec<u8>,
     pub room: usize,
+}
+
+impl WrittenCase {
+    /// The tables of the true side, with the tree that is written.
+    pub fn tree(self) -> TreeCase {
+        let WrittenCase {
+            mut ask,
+            net,
+            formulas,
+            room,
+        } = self;
+        let mut tree = vec![0; room];
+        let written = write(&ask, &net, &formulas, &mut tree).expect("a claim and room");
+        ask[11] = written.side;
+        tree.truncate(written.nodes as usize * NODE);
+        TreeCase {
+            ask,
+            net,
+            formulas,
+            tree,
+        }
+    }
 }
 
 /// The longest room, for one node more than can be written, and what it mostly is.

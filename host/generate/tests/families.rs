@@ -49,6 +49,7 @@ fn sizes() {
     assert_eq!(line(&families::full_round(1)), "accepted nodes 6");
     assert_eq!(line(&families::full_round(64)), "accepted nodes 258");
     assert_eq!(line(&families::and_tree(16)), "accepted nodes 65536");
+    assert_eq!(line(&families::r_copies(11)), "accepted nodes 49151");
     assert_eq!(line(&families::wide()), "accepted nodes 65536");
     assert_eq!(line(&families::optional_rings()), "accepted nodes 65536");
 }

@@ -31,14 +31,28 @@ impl Formula {
         }
     }
 
-    /// Whether the fields suit the operator at this record number.
-    fn fits(&self, number: usize) -> bool {
-        let (left, right, action) = match self.operator {
+    /// Whether the operator has a left operand, a right one and an action; nothing for an
+    /// unknown operator.
+    fn has(&self) -> Option<(bool, bool, bool)> {
+        Some(match self.operator {
             TRUE => (false, false, false),
             NOT => (true, false, false),
             STEP => (true, false, true),
             AND | SOME | ALL => (true, true, false),
-            _ => return false,
+            _ => return None,
+        })
+    }
+
+    /// The operands that the operator has, left and right.
+    pub fn operands(&self) -> [Option<u16>; 2] {
+        let (left, right, _) = self.has().unwrap_or_default();
+        [left.then_some(self.left), right.then_some(self.right)]
+    }
+
+    /// Whether the fields suit the operator at this record number.
+    fn fits(&self, number: usize) -> bool {
+        let Some((left, right, action)) = self.has() else {
+            return false;
         };
         let operand = |has: bool, field: u16| match has {
             true => usize::from(field) < number,

@@ -2,8 +2,8 @@
 //! category files, the tree check, the program's line, and the meaning of
 //! formulas on the graph of reachable markings. Of document 02: nets as PNML
 //! text (F-1), optional transitions (F-4), the tree of a formula without "until"
-//! (F-5), the end of borrowed labels (F-6), why a step is not enabled (F-7), and
-//! two nets side by side (F-8).
+//! (F-5), the end of borrowed labels (F-6), why a step is not enabled (F-7), two
+//! nets side by side (F-8), and room in the formula table (F-10).
 
 pub mod bytes;
 pub mod category;
@@ -16,10 +16,11 @@ pub mod net;
 pub mod pnml;
 pub mod pnml_definition;
 pub mod rules;
+pub mod saved;
 pub mod written;
 
 /// A call refused because of its input: the documents' number and the record
-/// (with 13 the offset).
+/// (with 13 the offset, with 20 to 26 the node).
 #[derive(Clone, Copy, Debug, PartialEq, Eq)]
 pub struct Refusal {
     pub number: u32,

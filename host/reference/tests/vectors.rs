@@ -1,7 +1,9 @@
 //! The reference agrees with every line of the vectors.
 
-use reference::check::{NODE, Verdict};
+use reference::check::{ASK, NODE, Verdict};
+use reference::formula::FORMULA;
 use reference::joined::{Half, join};
+use reference::saved::save;
 use reference::written::{Written, write};
 use reference::{category, check, converted, net, pnml, pnml_definition};
 
@@ -208,5 +210,20 @@ fn joint_nets() {
                 format!("{} {} 0 0 {nothing}", refusal.number, refusal.record)
             }
         }
+    });
+}
+
+#[test]
+fn saved_tables() {
+    agree("saved.txt", 160, |fields| {
+        let [ask, net, formulas, tree] = [0, 1, 2, 3].map(|i| bytes(&fields[i]));
+        let mut rooms = [4, 5, 6].map(|i| room(&fields[i]));
+        let lent = rooms.each_mut().map(|room| &mut room[..]);
+        let (number, place, left, lengths) = match save(&ask, &net, &formulas, &tree, lent) {
+            Ok(left) => (0, 0, left, [ASK, left as usize * FORMULA, tree.len()]),
+            Err(refusal) => (refusal.number, refusal.record, 0, [0; 3]),
+        };
+        let tables = [0, 1, 2].map(|i| written(&rooms[i], lengths[i]));
+        format!("{number} {place} {left} {}", tables.join(" "))
     });
 }

@@ -1,5 +1,6 @@
 //! The trees that are written for formulas without "until".
 
+mod formulas;
 mod tables;
 
 use reference::Refusal;
@@ -8,22 +9,11 @@ use reference::formula::{ALL, AND, NOT, SOME, STEP, TRUE};
 use reference::rules::{FAILS, HOLDS};
 use reference::written::{Written, measure, write};
 
+use formulas::{Row, formulas};
 use tables::{NET_R, ask, table};
 
 /// What rooms are filled with before a call.
 const FILL: u8 = 0xA5;
-
-type Row = (u8, u16, u16, u16);
-
-/// A formula table from operator, left, right and action.
-fn formulas(rows: &[Row]) -> Vec<u8> {
-    let record = |row: &Row| {
-        let mut record = vec![row.0, 0];
-        record.extend([row.1, row.2, row.3].iter().flat_map(|n| n.to_le_bytes()));
-        record
-    };
-    rows.iter().flat_map(record).collect()
-}
 
 fn refused(number: u32, record: u64) -> Result<Written, Refusal> {
     Err(Refusal { number, record })

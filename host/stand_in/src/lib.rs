@@ -1,7 +1,7 @@
 //! The C functions of documents 01 and 02 over the reference. It stands in for the archive
 //! while the tests themselves are tried out, and is no part of the gate.
 
-use reference::{category, check, converted, joined, net, pnml, written};
+use reference::{category, check, converted, joined, net, pnml, saved, written};
 
 /// # Safety
 /// The pointer is that of `len` readable bytes.
@@ -267,6 +267,52 @@ pub unsafe extern "C" fn desk_join(
         *places = joined.places;
         *marking = joined.marking;
         *length = joined.length as u64;
+    }
+    number
+}
+
+/// # Safety
+/// See `include/desk.h`.
+#[unsafe(no_mangle)]
+pub unsafe extern "C" fn desk_save_room(
+    ask: *const u8,
+    ask_len: usize,
+    net: *const u8,
+    net_len: usize,
+    formulas: *const u8,
+    formulas_len: usize,
+    tree: *const u8,
+    tree_len: usize,
+    new_ask: *mut u8,
+    new_ask_len: usize,
+    new_formulas: *mut u8,
+    new_formulas_len: usize,
+    new_tree: *mut u8,
+    new_tree_len: usize,
+    place: *mut u64,
+    count: *mut u64,
+) -> u32 {
+    let answer = unsafe {
+        let rooms = [
+            room(new_ask, new_ask_len),
+            room(new_formulas, new_formulas_len),
+            room(new_tree, new_tree_len),
+        ];
+        saved::save(
+            bytes(ask, ask_len),
+            bytes(net, net_len),
+            bytes(formulas, formulas_len),
+            bytes(tree, tree_len),
+            rooms,
+        )
+    };
+    let (number, at, left) = match answer {
+        Ok(left) => (0, 0, left),
+        Err(refusal) => (refusal.number, refusal.record, 0),
+    };
+    unsafe {
+        *place = at;
+        *count = left;
     }
     number
 }

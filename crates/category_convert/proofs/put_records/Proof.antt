@@ -16,7 +16,7 @@ loop-holds : tie.Need-loop-holds Inv-loop μ-loop
 loop-holds c = written-none _ _
 
 put-record-requires : tie.Need-put-record-requires Inv-loop μ-loop
-put-record-requires c κs = (c .before .before .before .before .before .pre .0, search needs, omega (arith, c .before .before .loop .inv .size))
+put-record-requires c κs = (c .before .before .before .before .before .pre .0, search needs, omega (arith, c .before .before .loop .inv .records .size))
 
 add-rewritten : tie.Need-add-rewritten Inv-loop μ-loop
 add-rewritten c = record { fits = omega (arith, c .before .before .before .before .before .loop .inv .most, once _ _ (c .before .before .put-record .ensures .1)) }

@@ -2,7 +2,7 @@
 use mathlib.Core.Path.{sym, ap, _∙_}
 use borrow.Author.Needs.{needs}
 use Rattle.checker.specs.Outcomes.{Outcome}
-use Rattle.desk.proofs.Accepted.{accepted}
+use Rattle.checker.proofs.Numbered.{accepted}
 use Rattle.desk.proofs.desk_check.Statement.{statement}
 use Rattle.desk.proofs.desk_check.Tie as tie
 

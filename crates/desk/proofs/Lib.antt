@@ -1,2 +1,0 @@
--- The laws that the proofs of `desk` cite.
-pub mod Accepted
