@@ -17,8 +17,9 @@ NAMES = dict(line.rstrip("\n").split("\t") for line in open(os.path.join(HERE, "
 NAME = re.compile(r"[^\s(){}\[\];,.:→λ\"`|⟨⟩]+")
 
 
-def turned(text):
-    return NAME.sub(lambda m: NAMES.get(m.group(0), m.group(0)), text)
+def turned(text, source=False):
+    """In a source no name gets a dash: such a name is a function's there."""
+    return NAME.sub(lambda m: m.group(0) if source and "-" in NAMES.get(m.group(0), "") else NAMES.get(m.group(0), m.group(0)), text)
 
 
 def main():
@@ -29,7 +30,7 @@ def main():
     for p in sorted(crates + pages):
         with open(p, encoding="utf-8") as f:
             old = f.read()
-        new = re.sub(r"`[^`\n]*`", lambda m: turned(m.group(0)), old) if p.endswith(".md") else turned(old)
+        new = re.sub(r"`[^`\n]*`", lambda m: turned(m.group(0)), old) if p.endswith(".md") else turned(old, p.endswith(".rt"))
         if new != old:
             changed += 1
             with open(p, "w", encoding="utf-8") as f:

@@ -1,4 +1,6 @@
 // Sets of the numbers 0 to 63, each as one u64: k is in s where bit k of s is 1.
+#![tactic(auto)]
+
 ghost use Rattle.std.specs.Prelude.{◌≡◌, ◌≤◌, ◌<◌, ◌^◌};
 ghost use Rattle.std.specs.Int.Count.{ones};
 ghost use Rattle.bitset.specs.Sets as sets;

@@ -1,4 +1,6 @@
 // Category files: the check of a translation and a house file, the lookup in one file, and the label from both.
+#![tactic(auto)]
+
 ghost use Rattle.std.specs.Prelude.{◌≡◌, ◌&&◌, ◌+◌, ◌≤◌, ◌<◌};
 ghost use Rattle.tables.specs.Lists as lists;
 ghost use Rattle.category.specs.Records as records;

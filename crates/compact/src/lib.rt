@@ -1,4 +1,6 @@
 // Room in the formula table: the tables of an accepted tree without the formula records that the asked one does not reach, written to lent tables.
+#![tactic(auto)]
+
 ghost use Rattle.std.specs.Prelude.{◌≡◌, true, cond, ◌*◌, ◌+◌, ◌≤◌, ◌<◌, length, set, get_or};
 ghost use Rattle.std.proofs.lemmas.List.Edits.{sets};
 ghost use Rattle.tables.specs.Lists.{tab, laid};
@@ -87,7 +89,7 @@ fn counted(mark: u8) -> u16
 }
 
 // For each record, how many lower ones are marked.
-fn numbers-of(marks: &[u8; 256]) -> [u16; 256]
+fn numbers_of(marks: &[u8; 256]) -> [u16; 256]
     ensures { result ≡ tab (count_below (serving.is_marked marks.now)) 256 }
 {
     let mut numbers = [0u16; 256];
@@ -220,7 +222,7 @@ fn compact_accepted(
     let a = read::ask_of(ask);
     let f = a.formula as usize;
     let marks = reached(formulas, f);
-    let numbers = numbers-of(&marks);
+    let numbers = numbers_of(&marks);
     let formula = numbers[f];
     let count = formula as usize + 1;
     if !((read::ASK <= new_ask.len())

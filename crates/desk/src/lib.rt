@@ -1,6 +1,8 @@
 // The desk terminal's functions for C: the tree check, the single firing, the check of two category files, the place of a label, the converter of
 // category files with borrowed texts, PNML texts written and read, trees written, two nets side by side, and tables without dead formula records.
 // Each out-parameter is written at every call.
+#![tactic(auto)]
+
 ghost use Rattle.std.specs.Prelude.{◌≡◌, take, drop};
 ghost use Rattle.net.specs.Answer as firings;
 ghost use Rattle.category.specs.Faults as categories;

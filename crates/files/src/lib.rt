@@ -1,4 +1,6 @@
 // Files read into whole buffers.
+#![tactic(auto)]
+
 ghost use Rattle.std.specs.Prelude.{◌≡◌, length, replicate};
 ghost use Rattle.files.specs.Reading.{FileRead};
 

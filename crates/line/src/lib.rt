@@ -1,4 +1,6 @@
 // The line that the program `treecheck` writes, put into a buffer.
+#![tactic(auto)]
+
 ghost use Rattle.checker.specs.Outcomes as outcomes;
 ghost use Rattle.texts.specs.Line as texts;
 ghost use Rattle.line.specs.Line as lines;

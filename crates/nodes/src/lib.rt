@@ -1,4 +1,6 @@
 // The nodes of a tree: their records, their links and the trail of a node.
+#![tactic(auto)]
+
 pub mod links;
 pub mod read;
 pub mod trail;

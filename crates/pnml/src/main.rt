@@ -1,6 +1,8 @@
 // `pnml write ASK NET` writes the text of the net with the ask's places and marking to standard output. `pnml read FILE NET` reads a text,
 // writes its records to the file NET and its places and marking as one line. A refusal is one line, and then no file is written. With any
 // other arguments it writes nothing but its usage, to standard error.
+#![tactic(auto)]
+
 ghost use Rattle.std.specs.Prelude.{◌≡◌, ◌≤◌, length, replicate};
 ghost use Rattle.pnml_read.specs.Answer as reads;
 

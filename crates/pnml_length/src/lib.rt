@@ -1,4 +1,6 @@
 // The length of the PNML text of a net with a marking, counted and not put.
+#![tactic(auto)]
+
 ghost use Rattle.std.specs.Prelude.{◌≡◌, true, ◌+◌, ◌*◌, ◌≤◌, ◌<◌, length};
 ghost use Rattle.texts.specs.Text as texts;
 ghost use Rattle.net.specs.Table as table;

@@ -1,4 +1,6 @@
 // What the program `pnml` writes: the text of a net by an ask, and its lines, each put into a buffer.
+#![tactic(auto)]
+
 ghost use Rattle.std.specs.Prelude.{◌≡◌, ◌≤◌};
 ghost use Rattle.texts.specs.Line as texts;
 ghost use Rattle.pnml_write.specs.Answer as writes;

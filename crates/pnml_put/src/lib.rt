@@ -1,6 +1,8 @@
 // The PNML text of a net with a marking, put into lent room. An element is put where the room left would hold the longest of its kind: one test
 // for all its bytes. A text that fits is put whole, since the text's end is longer than the longest of a kind is over the shortest. Pressed and
 // optional transitions are two kinds.
+#![tactic(auto)]
+
 ghost use Rattle.std.specs.Prelude.{◌≡◌, true, false, ◌+◌, ◌*◌, ◌≤◌, ◌<◌, length};
 ghost use Rattle.texts.specs.Text as texts;
 ghost use Rattle.net.specs.Table as table;

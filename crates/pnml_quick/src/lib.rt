@@ -1,4 +1,6 @@
 // What the PNML reader tries first: a word eight bytes at a time, a number with no look at its bounds before the end.
+#![tactic(auto)]
+
 ghost use Rattle.std.specs.Prelude.{◌+◌, ◌-◌, ◌≤◌, ◌<◌, ◌≡◌, true, false, length};
 ghost use Rattle.pnml_quick.specs.Serving as serving;
 

@@ -1,4 +1,6 @@
 // The reader: places, marking and transition records of a PNML text, the records put into lent room.
+#![tactic(auto)]
+
 ghost use Rattle.std.specs.Prelude.{◌≡◌, true};
 ghost use Rattle.pnml_shape.specs.Theorem as theorem;
 ghost use Rattle.pnml_scan.specs.Serving as scans;

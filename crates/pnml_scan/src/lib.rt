@@ -1,4 +1,6 @@
 // The parts of a PNML text, one after another: words, white space, numbers, and the elements made of these.
+#![tactic(auto)]
+
 ghost use Rattle.std.specs.Prelude.{◌+◌, ◌*◌, ◌^◌, ◌≤◌, ◌<◌, ◌≡◌, true, length};
 ghost use Rattle.pnml_shape.specs.Shape as shape;
 ghost use Rattle.pnml_shape.specs.Machine as machine;

@@ -1,4 +1,6 @@
 // What the PNML reader keeps of the places, transitions and arcs that it has read. Entries from 64 on are dropped.
+#![tactic(auto)]
+
 ghost use Rattle.std.specs.Prelude.{◌≡◌};
 ghost use Rattle.pnml_state.specs.Serving as serving;
 

@@ -1,4 +1,6 @@
 // The PNML reader's loop: element after element, to the end of the text or to the offset where it leaves the shape.
+#![tactic(auto)]
+
 ghost use Rattle.std.specs.Prelude.{◌≡◌, true, ℕ, ◌+◌, ◌^◌, ◌≤◌, ◌<◌, length};
 ghost use Rattle.pnml_shape.specs.Drawing as drawing;
 ghost use Rattle.pnml_shape.specs.Machine as machine;

@@ -1,4 +1,6 @@
 // The writer: the PNML text of a net with a marking, put into lent room.
+#![tactic(auto)]
+
 ghost use Rattle.std.specs.Prelude.{◌≡◌};
 ghost use Rattle.net.specs.Answer as refusals;
 ghost use Rattle.pnml_write.specs.Answer as answers;

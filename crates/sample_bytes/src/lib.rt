@@ -1,4 +1,6 @@
 // The bytes of samples: numbers and bytes written at an offset of a table, where what lies past the table's end is left off, and what a room holds.
+#![tactic(auto)]
+
 ghost use Rattle.std.specs.Prelude.{◌≡◌, length};
 ghost use Rattle.std.proofs.lemmas.List.Edits.{sets};
 ghost use Rattle.sample_bytes.specs.Bytes.{bytes};

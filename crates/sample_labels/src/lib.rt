@@ -1,4 +1,6 @@
 // The category files of the samples of labels, built from the fields of their records.
+#![tactic(auto)]
+
 ghost use Rattle.std.specs.Prelude.{◌≡◌, ◌*◌};
 ghost use Rattle.std.proofs.lemmas.List.Edits.{sets};
 ghost use Rattle.sample_labels.specs.Files as files;

@@ -1,4 +1,6 @@
 // The tables of the samples of nets, built from their fields, and the conflicts in a decoded table.
+#![tactic(auto)]
+
 ghost use Rattle.std.specs.Prelude.{◌≡◌, ◌*◌};
 ghost use Rattle.std.proofs.lemmas.List.Edits.{sets};
 ghost use Rattle.sample_nets.specs.Tables as tables;

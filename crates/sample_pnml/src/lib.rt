@@ -1,4 +1,6 @@
 // The samples of PNML: texts built from elements and bytes, and the answers of the writer and of the reader in numbers.
+#![tactic(auto)]
+
 ghost use Rattle.std.specs.Prelude.{◌≡◌, ◌+◌, ◌≤◌, ◌<◌, length};
 ghost use Rattle.std.proofs.lemmas.List.Edits.{sets};
 ghost use Rattle.texts.specs.Text as texts;

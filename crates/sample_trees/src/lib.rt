@@ -1,4 +1,6 @@
 // The tables of the samples of trees, built from their fields.
+#![tactic(auto)]
+
 ghost use Rattle.std.specs.Prelude.{◌≡◌};
 ghost use Rattle.sample_trees.specs.Tables as tables;
 

@@ -1,4 +1,6 @@
 // The samples of a walk: from a walk to start with, the calls of a list one after the other; what each answers, and what is read after it.
+#![tactic(auto)]
+
 ghost use Rattle.std.specs.Prelude.{◌≡◌, get_or, replicate};
 ghost use Rattle.walk.specs.Calls as calls;
 ghost use Rattle.walk.specs.History as history;

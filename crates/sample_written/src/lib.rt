@@ -1,4 +1,6 @@
 // The samples of written trees: their tables, the call of the writer on a room filled with a pattern, and the check of what was written.
+#![tactic(auto)]
+
 ghost use Rattle.std.specs.Prelude.{◌≡◌, ◌+◌, ◌*◌, ◌-◌, ◌/◌, ◌%◌, ◌≤◌, length, take};
 ghost use Rattle.std.proofs.lemmas.List.Edits.{sets};
 ghost use Rattle.sample_trees.specs.Tables.{formula};

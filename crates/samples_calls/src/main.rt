@@ -1,4 +1,6 @@
 // Runs the samples for nets, walks, the order of steps and labels and prints a line for each: a name, then the answer in document 01's numbers.
+#![tactic(auto)]
+
 mod labels;
 mod lines;
 mod names;

@@ -2,6 +2,8 @@
 // records left), and for ask, formulas and tree how much of the rest of the lent table is as it was before the call. Where it is granted, the
 // check's line on the new tables follows, then their formula records (operator, left, right, action), then what compacting them again answers, with
 // how many bytes are the same as before.
+#![tactic(auto)]
+
 mod calls;
 mod dead;
 mod given;

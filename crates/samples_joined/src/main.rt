@@ -2,6 +2,8 @@
 // marking, bytes of the records), and how much of the rest of the room is as it was before the call. A line of a joint transition has its number,
 // pre set, post set, action and mark, what firing it at the joint marking answers (number, record, marking, missing, occupied), and the set of
 // the transitions in conflict with it.
+#![tactic(auto)]
+
 mod calls;
 mod halves;
 mod lines;

@@ -1,4 +1,6 @@
 // Numbers stored into lent bytes, the lowest byte first, and bytes copied there.
+#![tactic(auto)]
+
 ghost use Rattle.std.specs.Prelude.{◌≡◌, ◌+◌, ◌≤◌, length, take, drop};
 ghost use Rattle.std.proofs.lemmas.List.Edits.{sets};
 ghost use Rattle.stores.specs.Low.{low_bytes};

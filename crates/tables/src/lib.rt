@@ -1,4 +1,6 @@
 // Tables of records of one fixed size: little-endian numbers at an offset of lent bytes, and the number of records in a length.
+#![tactic(auto)]
+
 ghost use Rattle.std.specs.Prelude.{◌≡◌, ◌+◌, ◌≤◌, ◌<◌, length};
 ghost use Rattle.tables.specs.Bytes.{field};
 ghost use Rattle.tables.specs.Sizes.{records_of};

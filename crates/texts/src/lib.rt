@@ -1,4 +1,6 @@
 // Texts as bytes, and numbers as text: definitions and their laws, and the putting of words and numbers into a line of 40 bytes.
+#![tactic(auto)]
+
 ghost use Rattle.std.specs.Prelude.{◌+◌, ◌≤◌, length};
 ghost use Rattle.texts.specs.Text as text;
 ghost use Rattle.texts.specs.Line as lines;

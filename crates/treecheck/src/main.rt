@@ -1,6 +1,8 @@
 // Reads a tree with its ask, net and formulas, and writes what the check says of it as one line. With no argument the files are ASK, NET,
 // FORMULA and TREE in the working folder; with four, they are the paths in that order. With any other number of arguments it writes
 // nothing but its usage, to standard error.
+#![tactic(auto)]
+
 mod inputs;
 
 use files::Got;

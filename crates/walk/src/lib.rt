@@ -1,5 +1,7 @@
 // The walk: a net of its own, a start marking, the present marking, the count of firings since load or reset, and the stored set of the
 // transitions enabled at the present marking.
+#![tactic(auto)]
+
 ghost use Rattle.std.specs.Prelude.{◌≡◌, ◌≤◌};
 ghost use Rattle.tables.specs.Below as below;
 ghost use Rattle.walk.specs.State as state;

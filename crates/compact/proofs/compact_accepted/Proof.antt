@@ -17,8 +17,8 @@ reached-requires c κs =
     let a = c.before.before.before.before.before.before.before.before in
     (a.requires.formulas_good, asked_inside a.requires c.before.ask-of.ensures)
 
-numbers-of-requires : tie.Need-numbers-of-requires
-numbers-of-requires c κs = search rules
+numbers_of-requires : tie.Need-numbers_of-requires
+numbers_of-requires c κs = search rules
 
 mul-formula : tie.Need-overflow-mul-formula
 mul-formula c = search rules
@@ -38,7 +38,7 @@ add-count c =
     let read = r.before.before in
     let a = read.before.before.before.before.before.before.before in
     let h = number_few
-    (record { ready = a.requires; asked = read.ask-of.ensures; marked = r.reached.ensures; numbered = c.numbers-of.ensures }) in
+    (record { ready = a.requires; asked = read.ask-of.ensures; marked = r.reached.ensures; numbered = c.numbers_of.ensures }) in
     search rules
 
 mul-if1 : tie.Need-overflow-mul-if1
@@ -47,7 +47,7 @@ mul-if1 c =
     let read = r.before.before in
     let a = read.before.before.before.before.before.before.before in
     let h = number_few
-    (record { ready = a.requires; asked = read.ask-of.ensures; marked = r.reached.ensures; numbered = c.numbers-of.ensures }) in
+    (record { ready = a.requires; asked = read.ask-of.ensures; marked = r.reached.ensures; numbered = c.numbers_of.ensures }) in
     search rules
 
 returns : tie.Need-returns
@@ -57,7 +57,7 @@ returns c =
     let read = r.before.before in
     let a = read.before.before.before.before.before.before.before in
     refused_short
-    (record { ready = a.requires; asked = read.ask-of.ensures; marked = r.reached.ensures; numbered = n.numbers-of.ensures })
+    (record { ready = a.requires; asked = read.ask-of.ensures; marked = r.reached.ensures; numbered = n.numbers_of.ensures })
     (tables a.args.new-ask.now a.args.new-formulas.now a.args.new-tree.now)
     c.if1.true
 
@@ -72,7 +72,7 @@ put-ask-requires c κs =
     let read = r.before.before in
     let a = read.before.before.before.before.before.before.before in
     ask-room
-    (record { ready = a.requires; asked = read.ask-of.ensures; marked = r.reached.ensures; numbered = n.numbers-of.ensures })
+    (record { ready = a.requires; asked = read.ask-of.ensures; marked = r.reached.ensures; numbered = n.numbers_of.ensures })
     (tables a.args.new-ask.now a.args.new-formulas.now a.args.new-tree.now)
     t.if1.false
 
@@ -85,7 +85,7 @@ put-formulas-requires c κs =
     let a = read.before.before.before.before.before.before.before in (
       a.requires.formulas_good,
       formulas-room
-          (record { ready = a.requires; asked = read.ask-of.ensures; marked = r.reached.ensures; numbered = n.numbers-of.ensures })
+          (record { ready = a.requires; asked = read.ask-of.ensures; marked = r.reached.ensures; numbered = n.numbers_of.ensures })
           (tables a.args.new-ask.now a.args.new-formulas.now a.args.new-tree.now)
           t.if1.false,
     )
@@ -99,7 +99,7 @@ put-nodes-requires c κs =
     let a = read.before.before.before.before.before.before.before in (
       a.requires.nodes_good,
       nodes-room
-          (record { ready = a.requires; asked = read.ask-of.ensures; marked = r.reached.ensures; numbered = n.numbers-of.ensures })
+          (record { ready = a.requires; asked = read.ask-of.ensures; marked = r.reached.ensures; numbered = n.numbers_of.ensures })
           (tables a.args.new-ask.now a.args.new-formulas.now a.args.new-tree.now)
           t.if1.false,
     )
@@ -124,7 +124,7 @@ returns-2 c =
     let read = r.before.before in
     let a = read.before.before.before.before.before.before.before in
     writes
-    (record { ready = a.requires; asked = read.ask-of.ensures; marked = r.reached.ensures; numbered = n.numbers-of.ensures })
+    (record { ready = a.requires; asked = read.ask-of.ensures; marked = r.reached.ensures; numbered = n.numbers_of.ensures })
     (tables a.args.new-ask.now a.args.new-formulas.now a.args.new-tree.now)
     t.if1.false first.before.ask-with.ensures first.put-ask.ensures second.put-formulas.ensures third.put-nodes.ensures
 
@@ -135,7 +135,7 @@ compact-accepted-spec =
     ask-of-requires
     cast_f
     reached-requires
-    numbers-of-requires
+    numbers_of-requires
     mul-formula
     array-read-formula
     cast-count
