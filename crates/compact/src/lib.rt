@@ -30,7 +30,7 @@ pub enum Compacted {
 }
 
 // An answer in the documents' numbers: 0 where granted; the record or node as its place; the formula records left, 0 where refused.
-#[derive(Drop)]
+#[derive(Clone, Copy)]
 pub struct Numbers {
     pub number: u32,
     pub place: u64,

@@ -9,7 +9,7 @@ pub mod write;
 use tableau::Sequent;
 
 // The ask: a formula of the table holds (side 0) or fails (side 1) at the marking of a net with so many places.
-#[derive(Drop)]
+#[derive(Clone, Copy)]
 pub struct Ask {
     pub marking: u64,
     pub formula: u16,
@@ -18,7 +18,7 @@ pub struct Ask {
 }
 
 // A node of the tree: its sequent, its links, its rule and the transition that the rule chooses.
-#[derive(Drop)]
+#[derive(Clone, Copy)]
 pub struct Node {
     pub sequent: Sequent,
     pub parent: u32,

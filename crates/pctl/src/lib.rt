@@ -21,7 +21,7 @@ pub enum Checked {
 }
 
 // A formula record: the operator, the records of its operands, and the action. A field that the operator lacks is zero.
-#[derive(Drop)]
+#[derive(Clone, Copy)]
 pub struct FormulaRecord {
     pub operator: u8,
     pub left: u16,

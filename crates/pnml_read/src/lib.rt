@@ -7,7 +7,7 @@ ghost use Rattle.pnml_scan.specs.Serving as scans;
 ghost use Rattle.pnml_read.specs.Answer as answers;
 
 // What a text gives: how many places, their marking, and the bytes of the records.
-#[derive(Drop)]
+#[derive(Clone, Copy)]
 pub struct Found {
     pub places: u32,
     pub marking: u64,
@@ -16,7 +16,7 @@ pub struct Found {
 
 // The answer: what was found, or why not. `answer_of` of specs/ has document 02's numbers: the text leaves the shape at an offset (13), no
 // or more than 64 places (1) or transitions (2), a room that is too short (12).
-#[derive(Drop)]
+#[derive(Clone, Copy)]
 pub enum ReadResult {
     Granted(Found),
     Left(usize),

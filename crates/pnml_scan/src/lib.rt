@@ -427,7 +427,7 @@ pub fn transition(text: &[u8], at: usize, transitions: usize) -> Numbered
 // ---- arcs
 
 // An arc into a transition from a place, or out of it (post).
-#[derive(Drop)]
+#[derive(Clone, Copy)]
 pub struct Arc {
     pub transition: usize,
     pub post: bool,

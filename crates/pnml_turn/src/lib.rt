@@ -23,7 +23,7 @@ pub enum Turn {
 
 // What was read so far: whether the text goes on, whether it ended well, the offset, how many places, transitions and arcs there are, the
 // marking, and the least arc that can follow (its transition, side and place).
-#[derive(Drop)]
+#[derive(Clone, Copy)]
 pub struct State {
     pub going: bool,
     pub ok: bool,

@@ -24,7 +24,7 @@ pub const LOAD_OPTIONAL: u32 = 68;
 pub const LOAD_THREE: u32 = 69;
 
 // The fields of a walk filled in by hand. Its other fields are net R's; `pre` is the pre set of t2, `post` the post set of t1.
-#[derive(Drop)]
+#[derive(Clone, Copy)]
 pub struct Hand {
     pub places: u32,
     pub transitions: u32,
@@ -38,7 +38,7 @@ pub struct Hand {
 }
 
 // The walks to start with: a new one, R after 65,535 firings of t0, and one filled in by hand.
-#[derive(Drop)]
+#[derive(Clone, Copy)]
 pub enum Start {
     New,
     Full,

@@ -38,7 +38,7 @@ fn lookup<'a>(names: &[u8], i: u32, translation: &'a [u8], house: &'a [u8], acti
 // ---- files by their records
 
 // A record whose text has at most two bytes: a zero byte ends it.
-#[derive(Drop)]
+#[derive(Clone, Copy)]
 struct Fields {
     action: u16,
     kind: u8,
@@ -48,7 +48,7 @@ struct Fields {
 }
 
 // A file of so many bytes, at most 64, which starts with these records.
-#[derive(Drop)]
+#[derive(Clone, Copy)]
 struct Contents {
     size: usize,
     first: Fields,

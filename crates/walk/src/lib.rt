@@ -14,7 +14,7 @@ const MOST: u32 = 65535;
 
 // A walk by value. Being loaded is a condition of the fields (`loaded` of specs/); entries and bits from transitions on are not looked at. No call's
 // answer depends on `optional`. `next` is the stored set: load, fire and reset leave Next there, and only read looks at it.
-#[derive(Drop)]
+#[derive(Clone, Copy)]
 pub struct Walk {
     pub places: u32,
     pub transitions: u32,

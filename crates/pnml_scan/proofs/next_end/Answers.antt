@@ -1,0 +1,10 @@
+-- `pnml_scan::next_end` meets its contract. Assumes nothing.
+use borrow.Author.Tests.{not-true, not-false}
+use Rattle.pnml_scan.proofs.Parts.{end_gone, end_next}
+use Rattle.pnml_scan.proofs.next_end.Goals as goal
+
+pub returns-then-not-had : goal.returns-then-not-had
+returns-then-not-had c = end_gone _ _ _ (not-true _ c.if-not-had.true-raw) c.requires
+
+pub returns : goal.returns
+returns c = end_next _ _ _ _ (not-false _ c.if-not-had.false-raw) c.blank-end.ensures

@@ -1,0 +1,9 @@
+-- `sample_trees::ask` meets its contract. Assumes nothing.
+use Rattle.sample_bytes.specs.Bytes.{bytes}
+use Rattle.sample_trees.specs.Tables.{ask}
+use Rattle.sample_trees.proofs.ask.Goals as goal
+
+pub returns : goal.returns
+unfolding bytes ask
+returns c =
+    simp (c.put_number-4.ensures, c.put_number-3.ensures, c.put_number-2.ensures, c.put_number.ensures)

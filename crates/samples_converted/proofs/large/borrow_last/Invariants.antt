@@ -1,0 +1,11 @@
+-- `samples_converted::large::borrow_last` meets its contract. The invariant: i is at most 1999. Assumes nothing.
+use Prim.Native.Nat.{◌≤◌, ◌-◌}
+use mathlib.Core.Path.{◌≡◌}
+use lib.ListN.{length}
+use Rattle.samples_converted.proofs.large.borrow_last.Given as goal
+
+abbrev pub invariant-loop-i : goal.invariant-loop-i
+invariant-loop-i l = (i ≤ 1999) × (length l.i ≡ length l.initial.file)
+
+abbrev pub decreases-loop-i : goal.decreases-loop-i
+decreases-loop-i l = 1999 - i
