@@ -87,13 +87,13 @@ leading (suc f) n h = by (ltb n 10) refl (λ l. leading f (n / 10) (omega arith)
 -- what begins a number from lo to hi is possible
 begins_on : {v n : ℕ} (f lo hi : ℕ) → hi < f → lo ≤ n → n ≤ hi → Cut v n → begins f v lo hi ≡ true
 unfolding begins
-begins_on zero lo hi h p q c = absurd (omega arith)
-begins_on {v} (suc f) lo hi h p q whole = or_left (leb lo v && leb v hi) _ (within lo v hi p q)
-begins_on {v} (suc f) lo hi h p q (less n z c) =
+begins_on {n = n} zero lo hi h p q c = absurd (omega arith)
+begins_on {v} {n = n} (suc f) lo hi h p q whole = or_left (leb lo v && leb v hi) _ (within lo v hi p q)
+begins_on {v} {n = m} (suc f) lo hi h p q (less n z c) =
     let l = cut_low c in
     or_right (leb lo v && leb v hi) (ltb 0 v && begins f v (lo / 10) (hi / 10))
     (and_intro (ltb 0 v) (begins f v (lo / 10) (hi / 10)) (lt-ltb 0 v z)
-    (begins_on f (lo / 10) (hi / 10) (omega arith) (omega arith) (omega arith) c))
+    (begins_on {n = n / 10} f (lo / 10) (hi / 10) (omega arith) (omega arith) (omega arith) c))
 
 pub cut_possible : {v n : ℕ} (lo hi : ℕ) → lo ≤ n → n ≤ hi → Cut v n → possible v lo hi ≡ true
 unfolding possible

@@ -14,4 +14,5 @@ slice_bounds-result-end c = omega (arith, c.part-p.ensures.0, c.part-p.ensures.1
 
 pub returns : goal.returns
 unfolding text_of
-returns c = (simp (add-sub_cancel_left, c.part-p.ensures.0, c.part-p.ensures.1), (refl, simp c.part-p.ensures.0))
+returns c =
+    record { bytes = simp (add-sub_cancel_left, c.part-p.ensures.0, c.part-p.ensures.1); part = (refl, simp c.part-p.ensures.0) }

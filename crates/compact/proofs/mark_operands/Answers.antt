@@ -21,5 +21,5 @@ mark-requires-2 c =
 pub returns : goal.returns
 returns c =
     operands_marked _ c.requires.0 c.args.i c.requires.1 c.args.marks.now
-    c.formula_at-r.ensures c.Has-left.ensures c.mark.ensures
-    c.Has-right.ensures c.mark-2.ensures
+    c.formula_at-r.ensures c.has_left.ensures c.mark.ensures
+    c.has_right.ensures c.mark-2.ensures

@@ -17,5 +17,5 @@ new_operand-right-requires c =
 pub returns : goal.returns
 returns c =
     record_put _ _ _ c.formula_at-r.ensures
-    c.Has-left.ensures c.new_operand-left.ensures
-    c.Has-right.ensures c.new_operand-right.ensures c.put_formula.ensures
+    c.has_left.ensures c.new_operand-left.ensures
+    c.has_right.ensures c.new_operand-right.ensures c.put_formula.ensures

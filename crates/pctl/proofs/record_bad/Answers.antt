@@ -7,5 +7,5 @@ use Rattle.pctl.proofs.record_bad.Goals as goal
 pub returns : goal.returns
 unfolding table.spare_at
 returns c =
-    bad_fields _ _ _ _ _ _ _ _ c.formula_at-f.ensures (field_one _ _) c.Has-left.ensures
-    c.operand_good-left.ensures c.Has-right.ensures c.operand_good-right.ensures
+    bad_fields _ _ _ _ _ _ _ _ c.formula_at-f.ensures (field_one _ _) c.has_left.ensures
+    c.operand_good-left.ensures c.has_right.ensures c.operand_good-right.ensures

@@ -2,8 +2,13 @@
 use Prim.Native.Nat.{◌-◌}
 use native.Mathlib.Omega.{arith}
 use borrow.Author.Rules.{rules}
+use Rattle.sample_bytes.specs.Rooms.{checksum}
 use Rattle.sample_bytes.proofs.Rooms.{summed, checksum_all}
 use Rattle.sample_bytes.proofs.checksum.Goals as goal
+
+pub loop-i-init : goal.loop-i-init
+unfolding checksum
+loop-i-init c = search rules
 
 pub overflow_cast-sum : goal.overflow_cast-sum
 overflow_cast-sum c = omega (arith, c.shared_slice_known-1.given c.loop-i.i)
