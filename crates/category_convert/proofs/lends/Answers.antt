@@ -8,6 +8,7 @@ use Rattle.category_convert.proofs.Prefix.{prefix_rising, prefix_le}
 use Rattle.category_convert.proofs.Bounds.{none_lends}
 use Rattle.category_convert.proofs.Lowest.{lowest_some}
 use Rattle.category_convert.proofs.lends.Goals as goal
+use Rattle.category_convert.proofs.lends.Goals.{then-at-prefix+else-lends_at, else-at-prefix}
 
 pub lends_at-requires : goal.lends_at-requires
 lends_at-requires c = omega (arith, prefix_le _ _ c.requires)
@@ -32,4 +33,4 @@ returns c = lowest_some
     (none_lends
     (prefix_rising _ _ c.requires)
     c.lower_bound-at.ensures
-    (λ l. ⊎_elim (λ w. sym w.1.ensures ∙ w.2.left) (λ w. absurd (omega arith)) c.if-at-prefix.branch))
+    (λ l. elim c.if-at-prefix.branch [ then-at-prefix+else-lends_at w ↦ sym w.lends_at.ensures ∙ w.if-lends_at.false | else-at-prefix w ↦ absurd (omega arith) ]))

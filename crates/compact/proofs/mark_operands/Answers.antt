@@ -16,7 +16,7 @@ mark-requires c =
 
 pub mark-requires-2 : goal.mark-requires-2
 mark-requires-2 c =
-    omega (arith, c.mark.auto.0, c.requires.2, right_few _ c.requires.0 c.args.i c.requires.1 c.formula_at-r.ensures)
+    omega (arith, c.mark.auto.marks, c.requires.2, right_few _ c.requires.0 c.args.i c.requires.1 c.formula_at-r.ensures)
 
 pub returns : goal.returns
 returns c =

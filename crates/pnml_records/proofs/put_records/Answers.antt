@@ -15,7 +15,7 @@ loop-t-init c = (omega arith, refl, refl)
 pub loop-t-preserved : goal.loop-t-preserved
 loop-t-preserved c =
     let l = c.loop-t in
-    (omega arith, c.put_record.auto.0 ∙ l.invariant.1, next_record _ _ _ _ l.t l.invariant.2 c.put_record.ensures)
+    (omega arith, c.put_record.auto.room ∙ l.invariant.1, next_record _ _ _ _ l.t l.invariant.2 c.put_record.ensures)
 
 pub returns : goal.returns
 returns c =

@@ -5,7 +5,7 @@ use Rattle.pnml_scan.proofs.post_ends.Goals as goal
 pub returns : goal.returns
 returns c =
     post_ends_of
-    c.requires.1
+    c.requires.fact
     c.post_into-into.ensures
     c.number-transition.ensures
     c.next_literal-target.ensures

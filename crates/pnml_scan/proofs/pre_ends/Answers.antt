@@ -5,7 +5,7 @@ use Rattle.pnml_scan.proofs.pre_ends.Goals as goal
 pub returns : goal.returns
 returns c =
     pre_ends_of
-    c.requires.1
+    c.requires.fact
     c.pre_from-low.ensures
     c.pre_into-into.ensures
     c.number-place.ensures

@@ -12,7 +12,7 @@ returns-then-not-source c =
     c.pre_open-pre.ensures
     c.next_source-source.ensures
     (not-true _ c.if-not-source.true)
-    c.requires.1
+    c.requires.fact
 
 pub returns-then-source : goal.returns-then-source
 returns-then-source c =

@@ -14,7 +14,7 @@ loop-i-init c = (omega arith, refl, refl)
 pub loop-i-preserved : goal.loop-i-preserved
 loop-i-preserved c = let put = c.put_record in
     let l = c.loop-i in
-    (search rules, put.auto.0 ∙ l.invariant.1, filled_next _ _ _ _ l.invariant.2 put.ensures)
+    (search rules, put.auto.file ∙ l.invariant.1, filled_next _ _ _ _ l.invariant.2 put.ensures)
 
 pub shape_of-file : goal.shape_of-file
 shape_of-file c = c.loop-i.invariant.1

@@ -2,4 +2,4 @@
 use Rattle.sample_labels.proofs.put_record.Goals as goal
 
 pub returns : goal.returns
-returns c = simp c.«record».ensures at c.put_bytes.ensures
+returns c = simp c.record-bytes.ensures at c.put_bytes.ensures

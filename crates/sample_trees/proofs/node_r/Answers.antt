@@ -98,4 +98,4 @@ unfolding bytes nodes_r node_r
 returns-in-22 c = c.node-in-22.ensures ∙ sym (ap node_r c.in-22.is)
 
 pub returns-in_default : goal.returns-in_default
-returns-in_default c = sym (no_node _ c.in-0.rest)
+returns-in_default c = sym (no_node _ c.in_default.in_default-own.rest)

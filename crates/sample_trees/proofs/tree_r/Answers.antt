@@ -14,7 +14,7 @@ pub loop-k-preserved : goal.loop-k-preserved
 loop-k-preserved c =
     let row = c.node_r in
     let length-row : length row.result ≡ 40 = search rules in
-    let length-tree : length c.put_bytes.new.0 ≡ 920 = search rules in
+    let length-tree : length c.put_bytes.new.table ≡ 920 = search rules in
     (omega arith, length-tree, nodes_more _ _ _ _ c.loop-k-test.true c.put_bytes.ensures row.ensures length-row c.loop-k.invariant.2)
 
 pub returns : goal.returns

@@ -34,5 +34,5 @@ returns-in-69 c = let net = c.net_three.ensures in
 
 pub returns-in_default : goal.returns-in_default
 unfolding history.answered history.called
-returns-in_default c = let no = c.in-64.rest in
+returns-in_default c = let no = c.in_default.in_default-own.rest in
     by_number _ _ _ _ _ (fires _ no.0.0.0.0.0.1 no.0.0.0.0.1 no.0.0.0.1 no.0.0.1 no.0.1 no.1) c.fire.ensures.0 c.fire.ensures.1
