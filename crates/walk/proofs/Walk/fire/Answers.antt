@@ -24,8 +24,7 @@ returns-then-not-enabled_by c =
 pub returns-then-self-ge-MOST : goal.returns-then-self-ge-MOST
 returns-then-self-ge-MOST c =
     fire_full _ _ (loaded_by _ c.net_good.ensures c.state_good.ensures c.if-not-net_good-state_good.false-raw) c.if-self-transition.false
-    (shown c.enabled_by.ensures c.if-not-enabled_by.false-raw)
-    c.if-self-ge-MOST.true
+    (shown c.enabled_by.ensures c.if-not-enabled_by.false-raw) c.if-self-ge-MOST.true
 
 pub next-next-requires : goal.next-next-requires
 next-next-requires c =
