@@ -1,7 +1,7 @@
 -- Sets of small numbers, each written as one number: k is in s where binary digit k of s is 1. Document 01: "A marking is one
 -- 64-bit number, bit k for place k", and a set of transitions is such a number too. Nothing here speaks of a width but `beyond`.
 -- Assumes nothing.
-use Rattle.std.specs.Prelude.{ℕ, zero, suc, ◌+◌, ◌-◌, ◌*◌, ◌/◌, ◌%◌, ◌^◌, Bool, true, false, cond, not, ◌&&◌, List, [], ◌∷◌, ◌++◌, eqb, ltb}
+use Rattle.std.specs.Prelude.{ℕ, zero, suc, ◌+◌, ◌-◌, ◌*◌, ◌/◌, ◌%◌, ◌^◌, Bool, cond, not, List, [], ◌∷◌, ◌++◌, eqb, ltb}
 use Rattle.std.specs.Int.Bits.{bit_and, bit_or}
 
 -- k is in s

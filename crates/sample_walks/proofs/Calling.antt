@@ -4,11 +4,12 @@ use mathlib.Core.Path.{◌≡◌, sym, ap, ◌∙◌}
 use mathlib.Core.List.{List}
 use native.Mathlib.Numerals.{add-one}
 use native.Mathlib.Omega.{arith}
-use lib.ListN.{get_or}
+use lib.ListN.{get_or, replicate}
 use borrow.Author.Tests.{ne_eqb}
 use Rattle.net.specs.declared.Numbers.{Numbers}
 use Rattle.net.specs.Answer.{Answer}
 use Rattle.walk.specs.declared.Walk.{Walk}
+use Rattle.walk.specs.History as history
 use Rattle.walk.specs.Calls.{loaded_answer, read_marking, read_count, read_next}
 use Rattle.walk.specs.History.{Call, load, fire, reset, answered, called}
 use Rattle.sample_nets.specs.Tables.{transition, net_r, optional_r, net_three}
@@ -89,3 +90,7 @@ in_seen w r g m k s n e =
       count = e.2 i;
       next = e.3 i;
     }
+
+-- the walk after n firings of transition 0
+unfoldable pub often : Walk → ℕ → Walk
+often w n = history.fire_all w (replicate n 0)

@@ -1,12 +1,11 @@
 -- What the count of a table's records says of its length. Assumes nothing.
-use mathlib.Core.Path.{◌≡◌, refl, sym, ap, ◌∙◌}
+use mathlib.Core.Path.{◌≡◌, refl, sym, ap}
 use mathlib.Core.Bool.{Bool, true, false, cond, ◌&&◌}
 use Prim.Native.Nat.{ℕ, ◌+◌, ◌*◌, ◌/◌, ◌%◌, ◌≤◌, ◌<◌}
 use native.Mathlib.Nat.{div-mul-le_self, le_trans, le_of_eq, suc-mul, mul-le-mul_right}
 use native.Mathlib.Omega.{arith}
 use lib.Dec.{eqb, leb}
 use borrow.Author.Tests.{leb-true}
-use Rattle.tables.specs.declared.RecordCount.{RecordCount}
 use Rattle.tables.specs.declared.RecordCount.TheVariants.{Whole, Refused}
 use Rattle.tables.specs.Sizes.{sized, records_of}
 

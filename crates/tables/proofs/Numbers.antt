@@ -1,12 +1,11 @@
 -- Little-endian numbers: a number of m + n bytes is one of m bytes and, above it, one of n; its bound. For any number of bytes.
 -- Assumes nothing.
-use mathlib.Core.Path.{◌≡◌, refl, sym, ap, ap₂, ◌∙◌, subst}
-use mathlib.Core.List.{List, [], ◌∷◌}
+use mathlib.Core.Path.{◌≡◌, sym, ap, ap₂, ◌∙◌, subst}
+use mathlib.Core.List.{List}
 use Prim.Native.Nat.{ℕ, zero, suc, ◌+◌, ◌*◌, ◌^◌, ◌<◌}
-use native.Mathlib.Nat.{zero-add, suc-add, add-zero, add_assoc, mul-add, mul_assoc, one-mul, mul-zero, pow-succ', pow-zero, lt-suc_self}
+use native.Mathlib.Nat.{zero-add, suc-add, add-zero, add_assoc, mul-add, mul_assoc, one-mul, pow-succ', lt-suc_self}
 use native.Mathlib.Omega.{arith}
-use native.Mathlib.Numerals.{add-one}
-use lib.ListN.{length, get_or, drop}
+use lib.ListN.{get_or, drop}
 use lib.Seq.{drop-drop, get_or-drop}
 use Rattle.tables.specs.Bytes.{little, field}
 

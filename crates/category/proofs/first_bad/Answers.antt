@@ -1,8 +1,6 @@
 -- `category::first_bad` meets its contract. The loop's invariant: no record passed is faulty. Assumes nothing.
 use mathlib.Core.Path.{sym, ◌∙◌}
-use Prim.Native.Nat.{◌-◌}
 use borrow.Author.Rules.{rules}
-use Rattle.category.specs.Faults.{record_bad}
 use Rattle.category.proofs.Scan.{passed_none, passed_more, passed_first, passed_all}
 use Rattle.category.proofs.first_bad.Goals as goal
 

@@ -1,6 +1,5 @@
 -- `category::label` meets its contract. Assumes nothing.
 use mathlib.Core.Path.{sym, ◌∙◌}
-use mathlib.Core.Logic.{⊎_elim}
 use native.Mathlib.Omega.{arith}
 use Rattle.category.proofs.Places.{placed_first, placed-second, placed-neither, placed_faulty, label_first, label_second, label_none, size_of_text}
 use Rattle.category.proofs.label.Goals as goal
@@ -38,9 +37,9 @@ returns c =
     let e = c.both_good.ensures in
     let r = label_none _ _ _ _ _ _ _
     (elim c.if-both_good.branch [
-    then-both_good+else-translated-gt0+else-untranslated-gt0 w ↦ placed-neither c.args.translation.now c.args.house.now c.args.action (sym e ∙ w.if-both_good.true)
-    (omega (arith, size_of_text _ _ _ w.text-translated.ensures.bytes, w.if-translated-gt0.false))
-    (omega (arith, size_of_text _ _ _ w.text-untranslated.ensures.bytes, w.if-untranslated-gt0.false)) |
-    else-both_good w ↦ placed_faulty c.args.translation.now c.args.house.now c.args.action (sym e ∙ w.if-both_good.false)
+      | then-both_good+else-translated-gt0+else-untranslated-gt0 w ↦ placed-neither c.args.translation.now c.args.house.now c.args.action (sym e ∙ w.if-both_good.true)
+          (omega (arith, size_of_text _ _ _ w.text-translated.ensures.bytes, w.if-translated-gt0.false))
+          (omega (arith, size_of_text _ _ _ w.text-untranslated.ensures.bytes, w.if-untranslated-gt0.false))
+      | else-both_good w ↦ placed_faulty c.args.translation.now c.args.house.now c.args.action (sym e ∙ w.if-both_good.false)
     ]) in
     record { bytes = r.0; part = r.1 }

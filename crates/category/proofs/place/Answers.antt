@@ -26,9 +26,9 @@ returns-then-untranslated-gt0 c =
     let q = c.place_in-untranslated in
     let a = c.args in
     let e = q.ensures
-        ∙ placed-second a.translation.now a.house.now a.action (sym c.both_good.ensures ∙ c.if-both_good.true)
-        (omega (arith, size_of_place _ _ _ _ p.ensures, c.if-translated-gt0.false))
-        (omega (arith, size_of_place _ _ _ _ q.ensures, c.if-untranslated-gt0.true)) in
+    ∙ placed-second a.translation.now a.house.now a.action (sym c.both_good.ensures ∙ c.if-both_good.true)
+    (omega (arith, size_of_place _ _ _ _ p.ensures, c.if-translated-gt0.false))
+    (omega (arith, size_of_place _ _ _ _ q.ensures, c.if-untranslated-gt0.true)) in
     record { place = e; bytes = (placed a.translation.now a.house.now a.action q.result e).1 }
 
 pub returns-else-untranslated-gt0 : goal.returns-else-untranslated-gt0
@@ -38,8 +38,8 @@ returns-else-untranslated-gt0 c =
     let q = c.place_in-untranslated in
     let a = c.args in
     let e = placed-neither a.translation.now a.house.now a.action (sym c.both_good.ensures ∙ c.if-both_good.true)
-        (omega (arith, size_of_place _ _ _ _ p.ensures, c.if-translated-gt0.false))
-        (omega (arith, size_of_place _ _ _ _ q.ensures, c.if-untranslated-gt0.false)) in
+    (omega (arith, size_of_place _ _ _ _ p.ensures, c.if-translated-gt0.false))
+    (omega (arith, size_of_place _ _ _ _ q.ensures, c.if-untranslated-gt0.false)) in
     record { place = e; bytes = (placed a.translation.now a.house.now a.action _ e).1 }
 
 pub returns-else-both_good : goal.returns-else-both_good

@@ -1,7 +1,6 @@
 -- `category::run_follows` meets its contract. The loop's invariant: `ok` says whether each byte passed may stand after the one before it.
 -- Assumes nothing.
 use mathlib.Core.Path.{ap₂, ◌∙◌}
-use Prim.Native.Nat.{◌-◌}
 use borrow.Author.Rules.{rules}
 use Rattle.tables.proofs.Below.{every_start, every_next, every_done}
 use Rattle.category.specs.Serving.{follows, run_follows}

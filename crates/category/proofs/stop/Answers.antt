@@ -1,8 +1,7 @@
 -- `category::stop` meets its contract. The loop's invariant: no record passed has the action or a greater one. Assumes nothing.
 use mathlib.Core.Path.{sym, ◌∙◌}
-use Prim.Native.Nat.{◌-◌}
 use borrow.Author.Rules.{rules}
-use Rattle.category.specs.Labels.{reaches, stop_of}
+use Rattle.category.specs.Labels.{stop_of}
 use Rattle.category.proofs.Scan.{passed_none, passed_more, passed_first, passed_all}
 use Rattle.category.proofs.stop.Goals as goal
 

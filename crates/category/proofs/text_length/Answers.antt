@@ -1,9 +1,8 @@
 -- `category::text_length` meets its contract. The loop's invariant: no byte passed is zero. Assumes nothing.
 use mathlib.Core.Path.{sym, ◌∙◌}
-use Prim.Native.Nat.{◌-◌}
 use borrow.Author.Tests.{eq-eqb, ne_eqb}
 use borrow.Author.Rules.{rules}
-use Rattle.category.specs.Records.{text_length, text_byte}
+use Rattle.category.specs.Records.{text_length}
 use Rattle.category.proofs.Scan.{passed_none, passed_more, passed_first, passed_all}
 use Rattle.category.proofs.text_length.Goals as goal
 

@@ -15,7 +15,7 @@ node_at-n-requires c = record_inside 40 _ c.loop-k.k c.loop-k-test.true
 pub bounds-numbers-s : goal.bounds-numbers-s
 unfolding nodes
 bounds-numbers-s c =
-    formula_few _ c.loop-k.k c.loop-k-test.true c.Node-at.ensures c.requires.0
+    formula_few _ c.loop-k.k c.loop-k-test.true c.node_at-n.ensures c.requires.0
 
 pub offset_bounds-numbers-s : goal.offset_bounds-numbers-s
 offset_bounds-numbers-s c = let h = element-copy-out-formula c in search rules
@@ -28,7 +28,7 @@ put_node-requires c =
 pub loop-k-preserved : goal.loop-k-preserved
 unfolding nodes
 loop-k-preserved c =
-    put_next _ _ c.loop-k.invariant c.loop-k-test.true c.Node-at.ensures
+    put_next _ _ c.loop-k.invariant c.loop-k-test.true c.node_at-n.ensures
     c.node_with.ensures c.put_node.ensures
 
 pub shape_of-room : goal.shape_of-room

@@ -15,4 +15,4 @@ put_refused-requires c = omega (arith, read_byte c.args.r, c.read_numbers-f.ensu
 pub returns : goal.returns
 returns c =
     let n = c.read_numbers-f.ensures in
-    read_refused _ n.0 n.1 c.if-f-eq0.false c.Put-refused.ensures
+    read_refused _ n.0 n.1 c.if-f-eq0.false c.put_refused.ensures

@@ -12,4 +12,4 @@ put_refused-requires c = omega (arith, written_byte c.args.w, c.written_numbers-
 
 pub returns : goal.returns
 returns c =
-    write_refused _ c.written_numbers-n.ensures.0 c.written_numbers-n.ensures.1 c.if-n-eq0.false c.Put-refused.ensures
+    write_refused _ c.written_numbers-n.ensures.0 c.written_numbers-n.ensures.1 c.if-n-eq0.false c.put_refused.ensures

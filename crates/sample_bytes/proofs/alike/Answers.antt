@@ -1,5 +1,4 @@
 -- `sample_bytes::alike` meets its contract. The invariant: the first i bytes are the same. Assumes nothing.
-use Prim.Native.Nat.{◌-◌}
 use lib.ListN.{length}
 use native.Mathlib.Omega.{arith}
 use Rattle.sample_bytes.proofs.Rooms.{same_more, same_stop, same_end, within}

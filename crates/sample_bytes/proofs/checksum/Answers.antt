@@ -1,5 +1,4 @@
 -- `sample_bytes::checksum` meets its contract. The invariant: the sum of those before i. Assumes nothing.
-use Prim.Native.Nat.{◌-◌}
 use native.Mathlib.Omega.{arith}
 use borrow.Author.Rules.{rules}
 use Rattle.sample_bytes.specs.Rooms.{checksum}

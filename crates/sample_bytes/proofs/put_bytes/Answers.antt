@@ -1,6 +1,5 @@
 -- `sample_bytes::put_bytes` meets its contract. The invariant: the bytes from j on, stored from k on, lead where all lead from the first.
 -- Assumes nothing.
-use Prim.Native.Nat.{◌-◌}
 use mathlib.Core.Path.{refl, sym, ◌∙◌}
 use lib.ListN.{drop, length-set}
 use native.Mathlib.Omega.{arith}

@@ -8,11 +8,8 @@ use borrow.Author.Rules.{rules}
 use Rattle.walk.specs.declared.Walk.{Walk}
 use Rattle.walk.specs.Calls.{fire_walk}
 use Rattle.walk.specs.History as history
+use Rattle.sample_walks.proofs.Calling.{often}
 use Rattle.sample_walks.proofs.fire_often.Goals as goal
-
--- the walk after n firings of transition 0
-often : Walk → ℕ → Walk
-often w n = history.fire_all w (replicate n 0)
 
 -- before the first firing all are left
 all_left : (w : Walk) (n : ℕ) → often w (n - 0) ≡ often w n

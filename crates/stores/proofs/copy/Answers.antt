@@ -1,5 +1,4 @@
 -- `stores::copy` meets its contract. The loop's invariant: the first k bytes are stored. Assumes nothing.
-use Prim.Native.Nat.{◌-◌}
 use native.Mathlib.Omega.{arith}
 use borrow.Author.Rules.{rules}
 use Rattle.stores.proofs.Copies.{copied_none, copied_more, copied_all}

@@ -13,11 +13,10 @@ pub returns-then-n-lt10 : goal.returns-then-n-lt10
 returns-then-n-lt10 t c = number_one _ _ _ (room_one _ _ _ c.if-n-lt10.true c.requires) c.if-n-lt10.true
 
 pub put_number-last-requires : goal.put_number-last-requires
-put_number-last-requires t c =
-    (
-      subst (λ (j : ℕ). c.args.n / 10 < j) c.decreases (div-lt_self (omega arith) (omega arith)),
-      le_of_lt (room_more c.args.at c.args.n 40 c.if-n-lt10.false c.requires),
-    )
+put_number-last-requires t c = (
+  subst (λ (j : ℕ). c.args.n / 10 < j) c.decreases (div-lt_self (omega arith) (omega arith)),
+  le_of_lt (room_more c.args.at c.args.n 40 c.if-n-lt10.false c.requires),
+)
 
 pub bounds-line-last : goal.bounds-line-last
 bounds-line-last t c =

@@ -1,6 +1,5 @@
 -- `texts::put_word` meets its contract. The invariant: the first i bytes of the word stand in the line. Assumes nothing.
 use mathlib.Core.Path.{refl}
-use Prim.Native.Nat.{◌-◌}
 use native.Mathlib.Nat.{le_antisymm}
 use native.Mathlib.Omega.{arith}
 use Rattle.texts.proofs.Line.{copied_more, copied_all}
