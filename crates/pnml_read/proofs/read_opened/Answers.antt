@@ -5,7 +5,7 @@ use Rattle.pnml_read.proofs.Answers.{few_most, left_answer, places_answer, trans
 use Rattle.pnml_read.proofs.read_opened.Goals as goal
 
 pub read_elements-t-requires : goal.read_elements-t-requires
-read_elements-t-requires c = (c.requires, (refl, refl, refl))
+read_elements-t-requires c = record { opened = c.requires; pre_value = (refl, refl, refl) }
 
 pub returns-then-not-t : goal.returns-then-not-t
 returns-then-not-t c = left_answer _ _ _ _ _ c.read_elements-t.ensures _ c.if-not-t.true

@@ -3,7 +3,7 @@ use Rattle.pnml_turn.proofs.Loop.{begins, left_less, ends}
 use Rattle.pnml_turn.proofs.read_elements.Goals as goal
 
 pub loop-s-init : goal.loop-s-init
-loop-s-init c = begins _ _ c.requires.0 _ c.begin-s.ensures _ _ _ c.requires.1
+loop-s-init c = begins _ _ c.requires.opened _ c.begin-s.ensures _ _ _ c.requires.pre_value
 
 pub advance-s-requires : goal.advance-s-requires
 advance-s-requires c = (c.loop-s.invariant, c.loop-s-test.true)

@@ -9,9 +9,9 @@ decreases-write_holds l = l.f
 abbrev pub decreases-write_fails : goal.decreases-write_fails
 decreases-write_fails l = l.f
 
-abbrev pub invariant-loop-t : goal.invariant-loop-t
-invariant-loop-t l =
+abbrev pub invariant-write_fails-loop-t : goal.invariant-write_fails-loop-t
+invariant-write_fails-loop-t l =
     Turn l.net l.formulas l.f l.m l.at l.initial.child l.initial.next l.initial.memo l.initial.room l.memo l.room l.child l.next l.t
 
-abbrev pub decreases-loop-t : goal.decreases-loop-t
-decreases-loop-t l = l.count - l.t
+abbrev pub decreases-write_fails-loop-t : goal.decreases-write_fails-loop-t
+decreases-write_fails-loop-t l = l.count - l.t

@@ -16,9 +16,9 @@ decreases-evaluate l = 3 * l.f + 1
 abbrev pub decreases-evaluate_steps : goal.decreases-evaluate_steps
 decreases-evaluate_steps l = 3 * l.f
 
-abbrev pub invariant-loop-t : goal.invariant-loop-t
-invariant-loop-t l =
+abbrev pub invariant-evaluate_steps-loop-t : goal.invariant-evaluate_steps-loop-t
+invariant-evaluate_steps-loop-t l =
     (l.t ≤ l.count) × (length l.memo ≡ length l.initial.memo) × Stepped (net_of 0 l.net) l.formulas l.memo l.f l.m l.size l.t
 
-abbrev pub decreases-loop-t : goal.decreases-loop-t
-decreases-loop-t l = l.count - l.t
+abbrev pub decreases-evaluate_steps-loop-t : goal.decreases-evaluate_steps-loop-t
+decreases-evaluate_steps-loop-t l = l.count - l.t
