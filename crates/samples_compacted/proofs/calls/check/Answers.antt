@@ -6,4 +6,3 @@ use Rattle.samples_compacted.proofs.calls.check.Goals as goal
 
 pub slice_bounds-text-end : goal.slice_bounds-text-end
 slice_bounds-text-end c = (whole refl c.check_line-size.ensures).0
-
