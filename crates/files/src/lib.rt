@@ -2,7 +2,12 @@
 #![tactic(auto)]
 
 ghost use Rattle.std.specs.Prelude.{◌≡◌, length, replicate};
-ghost use Rattle.files.specs.Reading.{FileRead};
+ghost use Rattle.files.specs.Reading.{IsPrefixLen, FileRead};
+
+use std::env::FillError;
+use std::fs;
+use std::io::Read;
+use std::rt::{Env, Files};
 
 // What reading a file gives: so many bytes at the start of the buffer, or that it cannot be read or fills the buffer.
 #[derive(Drop)]
@@ -20,16 +25,14 @@ pub fn room() -> [u8; 64001]
 }
 
 // Reads to the file's end. A folder opens, and its first read fails.
-fn read_to_end(fd: i32, buf: &mut [u8]) -> Got
+fn read_to_end<F: Read>(file: &mut F, buf: &mut [u8]) -> Got
     ensures { FileRead buf.new result }
 {
     let mut n: usize = 0;
     while n < buf.len() {
-        let got = libc::read(fd, &mut buf[n..]);
-        if got < 0 {
+        let Ok(more) = file.read(&mut buf[n..]) else {
             return Got::Unread;
-        }
-        let more = io::count(got, &buf[n..]);
+        };
         if more == 0 {
             return Got::Whole(n);
         }
@@ -38,24 +41,45 @@ fn read_to_end(fd: i32, buf: &mut [u8]) -> Got
     Got::Unread
 }
 
-// Reads the file at a path.
-pub fn read_path(path: &[u8], buf: &mut [u8]) -> Got
+// Reads the file at a path. One that is not UTF-8 is no file's, as std opens none there.
+pub fn read_path(rt: &impl Files, path: &[u8], buf: &mut [u8]) -> Got
     ensures { FileRead buf.new result }
 {
-    let fd = os::open_read(path);
-    if fd < 0 {
+    let Ok(path) = str::from_utf8(path) else {
         return Got::Unread;
+    };
+    let Ok(mut file) = fs::open(rt, path) else {
+        return Got::Unread;
+    };
+    read_to_end(&mut file, buf)
+}
+
+// Puts argument i at the start of the buffer and returns its length, or 0 where it is missing or longer than the buffer.
+pub fn argument(rt: &impl Env, i: usize, buf: &mut [u8]) -> usize
+    ensures { IsPrefixLen result buf.new }
+{
+    match rt.arg(i, buf) {
+        Ok(n) => n,
+        Err(_) => 0,
     }
-    let got = read_to_end(fd, buf);
-    libc::close(fd);
-    got
+}
+
+// How many arguments there are, the program's own name among them.
+pub fn argument_count(rt: &impl Env) -> usize {
+    let mut word = [0u8; 1];
+    for i in 0..usize::MAX {
+        if let Err(FillError::NotPresent) = rt.arg(i, &mut word) {
+            return i;
+        }
+    }
+    usize::MAX
 }
 
 // Reads the file that an argument names. One that is too long for a path is no file's: its length comes as 0, and the empty path is refused.
-pub fn read_argument(i: usize, buf: &mut [u8]) -> Got
+pub fn read_argument(rt: &(impl Env + Files), i: usize, buf: &mut [u8]) -> Got
     ensures { FileRead buf.new result }
 {
-    let mut path = io::buffer();
-    let size = os::arg(i, &mut path);
-    read_path(&path[..size], buf)
+    let mut path = [0u8; 4096];
+    let size = argument(rt, i, &mut path);
+    read_path(rt, &path[..size], buf)
 }

@@ -7,10 +7,11 @@ ghost use Rattle.std.specs.Prelude.{◌≡◌, ◌≤◌, length, replicate};
 ghost use Rattle.pnml_read.specs.Answer as reads;
 
 use files::Got;
-use libc::{STDERR_FILENO, STDOUT_FILENO};
 use pnml_line::Trouble;
 use pnml_read::ReadResult;
 use pnml_write::Written;
+use std::io::Write;
+use std::{fs, io};
 
 // Room for the longest text: 64 places, 64 optional transitions with actions of five digits and all 8,192 arcs are 359,925 bytes.
 fn text_room() -> [u8; 400000]
@@ -36,112 +37,102 @@ fn record_room() -> [u8; 1536]
     [0; 1536]
 }
 
-// Writes a text to standard output, or tells that it cannot.
-fn tell(text: &[u8]) {
-    if !io::write_all(STDOUT_FILENO, text) {
-        os::fail(b"write");
-    }
-}
-
-// Writes the file that an argument names, made or overwritten, and answers whether it is whole.
-fn write_argument(i: usize, bytes: &[u8]) -> bool {
-    let mut path = io::buffer();
-    let size = os::arg(i, &mut path);
-    let fd = os::open_overwrite(&path[..size]);
-    if fd < 0 {
+// Writes the file that an argument names, made or overwritten, and answers whether it is whole. A path that is not UTF-8 is no file's, as std
+// opens none there.
+fn write_argument(rt: HostRuntime, i: usize, bytes: &[u8]) -> bool {
+    let mut path = [0u8; 4096];
+    let size = files::argument(&rt, i, &mut path);
+    let Ok(path) = str::from_utf8(&path[..size]) else {
         return false;
-    }
-    let whole = io::write_all(fd, bytes);
-    let closed = libc::close(fd) == 0;
-    whole & closed
+    };
+    let Ok(mut file) = fs::create(&rt, path) else {
+        return false;
+    };
+    file.write_all(bytes).is_ok()
 }
 
 // Tells that a file is not read or not written.
-fn tell_trouble(t: Trouble) {
+fn tell_trouble(rt: HostRuntime, t: Trouble) -> io::Result<()> {
     let mut line = [0u8; 40];
     let size = pnml_line::trouble_line(t, &mut line);
-    tell(&line[..size]);
+    rt.write_all(&line[..size])
 }
 
 // Tells why there is no text.
-fn tell_refused(w: Written) {
+fn tell_refused(rt: HostRuntime, w: Written) -> io::Result<()> {
     let mut line = [0u8; 40];
     let size = pnml_line::write_line(w, &mut line);
-    tell(&line[..size]);
+    rt.write_all(&line[..size])
 }
 
 // Tells the text of the net with the ask's places and marking.
-fn tell_written(ask: &[u8], net: &[u8]) {
+fn tell_written(rt: HostRuntime, ask: &[u8], net: &[u8]) -> io::Result<()> {
     let mut room = text_room();
     let w = pnml_line::write_ask(ask, net, &mut room);
     let Written::Length(size) = w else {
-        tell_refused(w);
-        return;
+        return tell_refused(rt, w);
     };
-    tell(&room[..size]);
+    rt.write_all(&room[..size])
 }
 
 // Reads the ask and the net, and then writes the text.
-fn write() {
+fn write(rt: HostRuntime) -> io::Result<()> {
     let mut ask = files::room();
-    let Got::Whole(a) = files::read_argument(2, &mut ask) else {
-        tell_trouble(Trouble::UnreadAsk);
-        return;
+    let Got::Whole(a) = files::read_argument(&rt, 2, &mut ask) else {
+        return tell_trouble(rt, Trouble::UnreadAsk);
     };
     let mut net = files::room();
-    let Got::Whole(n) = files::read_argument(3, &mut net) else {
-        tell_trouble(Trouble::UnreadNet);
-        return;
+    let Got::Whole(n) = files::read_argument(&rt, 3, &mut net) else {
+        return tell_trouble(rt, Trouble::UnreadNet);
     };
-    tell_written(&ask[..a], &net[..n]);
+    tell_written(rt, &ask[..a], &net[..n])
 }
 
 // Whether the records of a text that was read, if it was, stand in the file NET.
-fn keep(r: ReadResult, records: &[u8]) -> bool
+fn keep(rt: HostRuntime, r: ReadResult, records: &[u8]) -> bool
     requires { (reads.found_of r).length ≤ length records.now }
 {
     let ReadResult::Granted(found) = r else {
         return true;
     };
     let size = found.length;
-    write_argument(3, &records[..size])
+    write_argument(rt, 3, &records[..size])
 }
 
 // Tells what reading a text found, once the file NET has its records.
-fn tell_read(text: &[u8]) {
+fn tell_read(rt: HostRuntime, text: &[u8]) -> io::Result<()> {
     let mut records = record_room();
     let r = pnml_read::read(text, &mut records);
-    if !keep(r, &records) {
-        tell_trouble(Trouble::UnwrittenNet);
-        return;
+    if !keep(rt, r, &records) {
+        return tell_trouble(rt, Trouble::UnwrittenNet);
     }
     let mut line = [0u8; 40];
     let size = pnml_line::read_line(r, &mut line);
-    tell(&line[..size]);
+    rt.write_all(&line[..size])
 }
 
 // Reads the file, and then its text.
-fn read() {
+fn read(rt: HostRuntime) -> io::Result<()> {
     let mut text = file_room();
-    let Got::Whole(n) = files::read_argument(2, &mut text) else {
-        tell_trouble(Trouble::UnreadFile);
-        return;
+    let Got::Whole(n) = files::read_argument(&rt, 2, &mut text) else {
+        return tell_trouble(rt, Trouble::UnreadFile);
     };
-    tell_read(&text[..n]);
+    tell_read(rt, &text[..n])
 }
 
-fn main() {
-    let mut word = io::buffer();
-    let size = os::arg(1, &mut word);
-    let three = os::arg_count() == 4;
-    if three & check::same(&word[..size], b"write") {
-        write();
-    } else if three & check::same(&word[..size], b"read") {
-        read();
+fn main(rt: HostRuntime) -> io::Result<()> {
+    let mut buf = [0u8; 4096];
+    let size = files::argument(&rt, 1, &mut buf);
+    let word: &[u8] = &buf[..size];
+    let three = files::argument_count(&rt) == 4;
+    if three && word == b"write".as_slice() {
+        write(rt)
+    } else if three && word == b"read".as_slice() {
+        read(rt)
     } else {
-        io::write_all(
-            STDERR_FILENO,
-            b"usage: pnml write ASK NET | pnml read FILE NET\n",
-        );
+        let _ = rt
+            .stderr()
+            .write_all(b"usage: pnml write ASK NET | pnml read FILE NET\n");
+        Ok(())
     }
 }

@@ -4,6 +4,8 @@
 mod lines;
 mod trees;
 
-fn main() {
-    trees::print_all();
+use std::io;
+
+fn main(rt: HostRuntime) -> io::Result<()> {
+    trees::print_all(rt)
 }

@@ -6,118 +6,126 @@ use crate::lines::{end, number, print};
 use sample_bytes::{put_bytes, put_number};
 use sample_nets::{net_optional, net_r, transition};
 use sample_trees::{ask, formula, formulas_r, node, tree_fails, tree_r};
+use std::io;
 
 // Prints the line of four tables.
-fn tell(ask: &[u8], net: &[u8], formulas: &[u8], tree: &[u8]) {
-    print(b": ");
+fn tell(rt: HostRuntime, ask: &[u8], net: &[u8], formulas: &[u8], tree: &[u8]) -> io::Result<()> {
+    print(rt, b": ")?;
     let mut text = [0u8; 40];
     let size = line::check_line(ask, net, formulas, tree, &mut text);
-    print(&text[..size]);
+    print(rt, &text[..size])
 }
 
 // Over R's net and formulas.
-fn tell_r(ask: [u8; 12], tree: &[u8]) {
-    tell(&ask, &net_r(), &formulas_r(), tree);
+fn tell_r(rt: HostRuntime, ask: [u8; 12], tree: &[u8]) -> io::Result<()> {
+    tell(rt, &ask, &net_r(), &formulas_r(), tree)
 }
 
 // R fails 2, its node 3 keeping some.
-fn keeping(last: u64) {
-    print(b"R fails 2, node 3 keeping");
-    number(last);
-    tell_r(ask(3, 2, 3, 1), &tree_fails(3, 3, last));
+fn keeping(rt: HostRuntime, last: u64) -> io::Result<()> {
+    print(rt, b"R fails 2, node 3 keeping")?;
+    number(rt, last)?;
+    tell_r(rt, ask(3, 2, 3, 1), &tree_fails(3, 3, last))
 }
 
 // Only place 0 and t0.
-fn one_place() {
-    print(b"only place 0 and t0");
+fn one_place(rt: HostRuntime) -> io::Result<()> {
+    print(rt, b"only place 0 and t0")?;
     let tree = tree_fails(1, 1, 0);
-    tell(&ask(1, 2, 1, 1), &transition(1, 1, 1), &formulas_r(), &tree);
+    tell(
+        rt,
+        &ask(1, 2, 1, 1),
+        &transition(1, 1, 1),
+        &formulas_r(),
+        &tree,
+    )
 }
 
 // The starred samples.
-fn starred() {
-    print(b"R holds 2");
-    tell_r(ask(3, 2, 3, 0), &tree_r());
-    keeping(2);
-    keeping(0);
-    one_place();
+fn starred(rt: HostRuntime) -> io::Result<()> {
+    print(rt, b"R holds 2")?;
+    tell_r(rt, ask(3, 2, 3, 0), &tree_r())?;
+    keeping(rt, 2)?;
+    keeping(rt, 0)?;
+    one_place(rt)
 }
 
 // ---- 1 to 7
 
 // R's tree under an ask.
-fn asked(marking: u64, formula: u16, places: u8, side: u8) {
-    print(b"R, ask");
-    number(marking);
-    number(formula as u64);
-    number(places as u64);
-    number(side as u64);
-    tell_r(ask(marking, formula, places, side), &tree_r());
+fn asked(rt: HostRuntime, marking: u64, formula: u16, places: u8, side: u8) -> io::Result<()> {
+    print(rt, b"R, ask")?;
+    number(rt, marking)?;
+    number(rt, formula as u64)?;
+    number(rt, places as u64)?;
+    number(rt, side as u64)?;
+    tell_r(rt, ask(marking, formula, places, side), &tree_r())
 }
 
-fn asks() {
-    asked(3, 2, 0, 0); // no places
-    asked(3, 2, 65, 0); // too many
-    asked(3, 2, 3, 2); // side above 1
-    asked(8, 2, 3, 0); // marking beyond the places
-    asked(3, 3, 3, 0); // formula not in the table
+fn asks(rt: HostRuntime) -> io::Result<()> {
+    asked(rt, 3, 2, 0, 0)?; // no places
+    asked(rt, 3, 2, 65, 0)?; // too many
+    asked(rt, 3, 2, 3, 2)?; // side above 1
+    asked(rt, 8, 2, 3, 0)?; // marking beyond the places
+    asked(rt, 3, 3, 3, 0) // formula not in the table
 }
 
 // R's tree over another net.
-fn tell_net(net: [u8; 72]) {
-    tell(&ask(3, 2, 3, 0), &net, &formulas_r(), &tree_r());
+fn tell_net(rt: HostRuntime, net: [u8; 72]) -> io::Result<()> {
+    tell(rt, &ask(3, 2, 3, 0), &net, &formulas_r(), &tree_r())
 }
 
 // R with another transition t.
-fn with_transition(t: u8, pre: u64, post: u64, action: u16) {
-    print(b"R, transition");
-    number(t as u64);
-    number(pre);
-    number(post);
-    number(action as u64);
+fn with_transition(rt: HostRuntime, t: u8, pre: u64, post: u64, action: u16) -> io::Result<()> {
+    print(rt, b"R, transition")?;
+    number(rt, t as u64)?;
+    number(rt, pre)?;
+    number(rt, post)?;
+    number(rt, action as u64)?;
     let mut net = net_r();
     put_bytes(&mut net, t as usize * 24, &transition(pre, post, action));
-    tell_net(net);
+    tell_net(rt, net)
 }
 
 // R with another byte in its net.
-fn with_net_byte(at: usize, value: u64) {
-    print(b"R, net, byte");
-    number(at as u64);
-    number(value);
+fn with_net_byte(rt: HostRuntime, at: usize, value: u64) -> io::Result<()> {
+    print(rt, b"R, net, byte")?;
+    number(rt, at as u64)?;
+    number(rt, value)?;
     let mut net = net_r();
     put_number(&mut net, at, 1, value);
-    tell_net(net);
+    tell_net(rt, net)
 }
 
-fn nets() {
-    with_transition(0, 8, 1, 1); // pre set beyond the places
-    with_transition(2, 4, 8, 3); // post set beyond the places
-    with_net_byte(18, 2); // the mark of t0, above 1
-    with_net_byte(42, 255); // the mark of t1, above 1
-    with_net_byte(19, 1); // the first spare byte of t0
-    with_net_byte(23, 1); // the last spare byte of t0
-    with_net_byte(47, 1); // the last spare byte of t1
+fn nets(rt: HostRuntime) -> io::Result<()> {
+    with_transition(rt, 0, 8, 1, 1)?; // pre set beyond the places
+    with_transition(rt, 2, 4, 8, 3)?; // post set beyond the places
+    with_net_byte(rt, 18, 2)?; // the mark of t0, above 1
+    with_net_byte(rt, 42, 255)?; // the mark of t1, above 1
+    with_net_byte(rt, 19, 1)?; // the first spare byte of t0
+    with_net_byte(rt, 23, 1)?; // the last spare byte of t0
+    with_net_byte(rt, 47, 1) // the last spare byte of t1
 }
 
 // ---- optional transitions
 
 // R with transition t optional, its tree, and the tree that shows "fails 2" by the loop of t0, its node 1 keeping some.
-fn with_optional(t: u8, kept: u64, last: u64) {
-    print(b"R, optional");
-    number(t as u64);
-    tell_net(net_optional(t));
-    print(b"R, optional");
-    number(t as u64);
-    print(b", fails 2, keeping");
-    number(kept);
-    number(last);
+fn with_optional(rt: HostRuntime, t: u8, kept: u64, last: u64) -> io::Result<()> {
+    print(rt, b"R, optional")?;
+    number(rt, t as u64)?;
+    tell_net(rt, net_optional(t))?;
+    print(rt, b"R, optional")?;
+    number(rt, t as u64)?;
+    print(rt, b", fails 2, keeping")?;
+    number(rt, kept)?;
+    number(rt, last)?;
     tell(
+        rt,
         &ask(3, 2, 3, 1),
         &net_optional(t),
         &formulas_r(),
         &tree_fails(3, kept, last),
-    );
+    )
 }
 
 // Puts three nodes, the first of them node k.
@@ -129,7 +137,7 @@ fn put_three(tree: &mut [u8], k: u8, a: [u8; 40], b: [u8; 40], c: [u8; 40]) {
 }
 
 // The tree for "R with t0 optional holds 2" over a net: as R's, but t1 alone is kept, and there is one round.
-fn tree_optional(net: &[u8]) {
+fn tree_optional(rt: HostRuntime, net: &[u8]) -> io::Result<()> {
     let mut tree = [0u8; 600];
     put_three(
         &mut tree,
@@ -166,105 +174,112 @@ fn tree_optional(net: &[u8]) {
         node(3, 3, 2, 11, 0, 2, 0, 17, 0, 1, 0, 0),
         node(1, 0, 0, 12, 0, 0, 0, 15, 0, 0, 0, 0),
     );
-    tell(&ask(3, 2, 3, 0), net, &formulas_r(), &tree);
+    tell(rt, &ask(3, 2, 3, 0), net, &formulas_r(), &tree)
 }
 
 // The transition 1→0 with this mark at marking 1, and "fails 2" by rule 29: nothing pressed is enabled, and the right fails.
-fn waiting(mark: u64) {
-    print(b"1->0, mark");
-    number(mark);
+fn waiting(rt: HostRuntime, mark: u64) -> io::Result<()> {
+    print(rt, b"1->0, mark")?;
+    number(rt, mark)?;
     let mut net = transition(1, 0, 1);
     put_number(&mut net, 18, 1, mark);
     let mut tree = [0u8; 80];
     put_bytes(&mut tree, 0, &node(1, 0, 0, 0, 1, 2, 1, 29, 1, 0, 0, 0));
     put_bytes(&mut tree, 40, &node(1, 0, 0, 0, 0, 1, 0, 24, 1, 0, 0, 0));
-    tell(&ask(1, 2, 1, 1), &net, &formulas_r(), &tree);
+    tell(rt, &ask(1, 2, 1, 1), &net, &formulas_r(), &tree)
 }
 
-fn optionals() {
-    with_optional(1, 1, 0);
-    with_optional(1, 3, 2); // t1 kept too
-    with_optional(0, 2, 2);
-    print(b"R, optional 0, holds 2, 15 nodes");
-    tree_optional(&net_optional(0));
-    print(b"R, holds 2, 15 nodes");
-    tree_optional(&net_r());
-    waiting(1);
-    waiting(0);
+fn optionals(rt: HostRuntime) -> io::Result<()> {
+    with_optional(rt, 1, 1, 0)?;
+    with_optional(rt, 1, 3, 2)?; // t1 kept too
+    with_optional(rt, 0, 2, 2)?;
+    print(rt, b"R, optional 0, holds 2, 15 nodes")?;
+    tree_optional(rt, &net_optional(0))?;
+    print(rt, b"R, holds 2, 15 nodes")?;
+    tree_optional(rt, &net_r())?;
+    waiting(rt, 1)?;
+    waiting(rt, 0)
 }
 
 // R's tree over another table of formulas.
-fn tell_formulas(formulas: [u8; 24]) {
-    tell(&ask(3, 2, 3, 0), &net_r(), &formulas, &tree_r());
+fn tell_formulas(rt: HostRuntime, formulas: [u8; 24]) -> io::Result<()> {
+    tell(rt, &ask(3, 2, 3, 0), &net_r(), &formulas, &tree_r())
 }
 
 // R's formulas with another record f.
-fn with_formula(f: u8, operator: u8, left: u16, right: u16, action: u16) {
-    print(b"R, formula");
-    number(f as u64);
-    number(operator as u64);
-    number(left as u64);
-    number(right as u64);
-    number(action as u64);
+fn with_formula(
+    rt: HostRuntime,
+    f: u8,
+    operator: u8,
+    left: u16,
+    right: u16,
+    action: u16,
+) -> io::Result<()> {
+    print(rt, b"R, formula")?;
+    number(rt, f as u64)?;
+    number(rt, operator as u64)?;
+    number(rt, left as u64)?;
+    number(rt, right as u64)?;
+    number(rt, action as u64)?;
     let mut table = formulas_r();
     let record = formula(operator, left, right, action);
     put_bytes(&mut table, f as usize * 8, &record);
-    tell_formulas(table);
+    tell_formulas(rt, table)
 }
 
 // R's formulas with a byte that is 1.
-fn with_formulas_byte(at: usize) {
-    print(b"R, formulas, byte");
-    number(at as u64);
+fn with_formulas_byte(rt: HostRuntime, at: usize) -> io::Result<()> {
+    print(rt, b"R, formulas, byte")?;
+    number(rt, at as u64)?;
     let mut table = formulas_r();
     put_number(&mut table, at, 1, 1);
-    tell_formulas(table);
+    tell_formulas(rt, table)
 }
 
-fn formulas() {
-    with_formula(0, 6, 0, 0, 0); // operator above 5
-    with_formula(0, 1, 0, 0, 0); // "not" of record 0 in record 0
-    with_formula(2, 5, 0, 2, 0); // an operand that is not lower
-    with_formula(2, 5, 0, 1, 1); // an action, which operator 5 lacks
-    with_formulas_byte(9); // the spare byte of record 1
+fn formulas(rt: HostRuntime) -> io::Result<()> {
+    with_formula(rt, 0, 6, 0, 0, 0)?; // operator above 5
+    with_formula(rt, 0, 1, 0, 0, 0)?; // "not" of record 0 in record 0
+    with_formula(rt, 2, 5, 0, 2, 0)?; // an operand that is not lower
+    with_formula(rt, 2, 5, 0, 1, 1)?; // an action, which operator 5 lacks
+    with_formulas_byte(rt, 9) // the spare byte of record 1
 }
 
 // R's tables cut to these lengths.
-fn cut(a: usize, n: usize, f: usize, t: usize) {
-    print(b"R, bytes");
-    number(a as u64);
-    number(n as u64);
-    number(f as u64);
-    number(t as u64);
+fn cut(rt: HostRuntime, a: usize, n: usize, f: usize, t: usize) -> io::Result<()> {
+    print(rt, b"R, bytes")?;
+    number(rt, a as u64)?;
+    number(rt, n as u64)?;
+    number(rt, f as u64)?;
+    number(rt, t as u64)?;
     let asked = ask(3, 2, 3, 0);
     let net = net_r();
     let table = formulas_r();
     let tree = tree_r();
     if 12 < a {
-        return;
+        return Ok(());
     }
     if 72 < n {
-        return;
+        return Ok(());
     }
     if 24 < f {
-        return;
+        return Ok(());
     }
     if 920 < t {
-        return;
+        return Ok(());
     }
-    tell(&asked[..a], &net[..n], &table[..f], &tree[..t]);
+    tell(rt, &asked[..a], &net[..n], &table[..f], &tree[..t])
 }
 
 // Lengths that are no records, and a tree without its last node.
-fn sizes() {
-    cut(11, 72, 24, 920);
-    cut(12, 0, 24, 920);
-    cut(12, 71, 24, 920);
-    cut(12, 72, 0, 920);
-    cut(12, 72, 23, 920);
-    cut(12, 72, 24, 0);
-    cut(12, 72, 24, 919);
-    cut(12, 72, 24, 880);
+fn sizes(rt: HostRuntime) -> io::Result<()> {
+    cut(rt, 11, 72, 24, 920)?;
+    cut(rt, 12, 0, 24, 920)?;
+    cut(rt, 12, 71, 24, 920)?;
+    cut(rt, 12, 72, 0, 920)?;
+    cut(rt, 12, 72, 23, 920)?;
+    cut(rt, 12, 72, 24, 0)?;
+    cut(rt, 12, 72, 24, 919)?;
+    cut(rt, 12, 72, 24, 880)
 }
 
 // The bytes of 65,537 nodes, all zero.
@@ -275,19 +290,25 @@ fn zeros() -> [u8; 2621480]
 }
 
 // More nodes than a tree may have.
-fn many() {
-    print(b"65537 nodes");
+fn many(rt: HostRuntime) -> io::Result<()> {
+    print(rt, b"65537 nodes")?;
     let tree = zeros();
-    tell_r(ask(3, 2, 3, 0), &tree);
+    tell_r(rt, ask(3, 2, 3, 0), &tree)
 }
 
 // A formula that is true, at the marking of place 63, with so many places.
-fn edge(places: u8) {
-    print(b"marking 63 of");
-    number(places as u64);
+fn edge(rt: HostRuntime, places: u8) -> io::Result<()> {
+    print(rt, b"marking 63 of")?;
+    number(rt, places as u64)?;
     let tree = node(9223372036854775808, 0, 0, 0, 0, 0, 0, 15, 0, 0, 0, 0);
     let asked = ask(9223372036854775808, 0, places, 0);
-    tell(&asked, &transition(0, 0, 0), &formula(0, 0, 0, 0), &tree);
+    tell(
+        rt,
+        &asked,
+        &transition(0, 0, 0),
+        &formula(0, 0, 0, 0),
+        &tree,
+    )
 }
 
 // ---- 20 to 26
@@ -318,27 +339,27 @@ const ROUND: u8 = 38;
 const TRANSITION: u8 = 39;
 
 // Prints the name of a field of one byte.
-fn name_of_byte(field: u8) {
+fn name_of_byte(rt: HostRuntime, field: u8) -> io::Result<()> {
     match field {
-        CHILDREN => print(b", children"),
-        RULE => print(b", rule"),
-        SIDE => print(b", side"),
-        PHASE => print(b", phase"),
-        ROUND => print(b", round"),
-        _ => print(b", transition"),
+        CHILDREN => print(rt, b", children"),
+        RULE => print(rt, b", rule"),
+        SIDE => print(rt, b", side"),
+        PHASE => print(rt, b", phase"),
+        ROUND => print(rt, b", round"),
+        _ => print(rt, b", transition"),
     }
 }
 
 // Prints the name of a field.
-fn name(field: u8) {
+fn name(rt: HostRuntime, field: u8) -> io::Result<()> {
     match field {
-        MARKING => print(b", marking"),
-        ANCHOR => print(b", anchor"),
-        KEPT => print(b", kept"),
-        PARENT => print(b", parent"),
-        FIRST => print(b", first"),
-        FORMULA => print(b", formula"),
-        _ => name_of_byte(field),
+        MARKING => print(rt, b", marking"),
+        ANCHOR => print(rt, b", anchor"),
+        KEPT => print(rt, b", kept"),
+        PARENT => print(rt, b", parent"),
+        FIRST => print(rt, b", first"),
+        FORMULA => print(rt, b", formula"),
+        _ => name_of_byte(rt, field),
     }
 }
 
@@ -353,36 +374,37 @@ fn width(field: u8) -> usize {
 }
 
 // Gives a field of node k a value, and prints both.
-fn put_field(tree: &mut [u8], k: u8, field: u8, value: u64) {
-    name(field);
-    number(value);
+fn put_field(rt: HostRuntime, tree: &mut [u8], k: u8, field: u8, value: u64) -> io::Result<()> {
+    name(rt, field)?;
+    number(rt, value)?;
     let at = k as usize * 40 + field as usize;
     put_number(tree, at, width(field), value);
+    Ok(())
 }
 
 // R's tree with a field of node k changed.
-fn with(k: u8, field: u8, value: u64) {
-    print(b"R, node");
-    number(k as u64);
+fn with(rt: HostRuntime, k: u8, field: u8, value: u64) -> io::Result<()> {
+    print(rt, b"R, node")?;
+    number(rt, k as u64)?;
     let mut tree = tree_r();
-    put_field(&mut tree, k, field, value);
-    tell_r(ask(3, 2, 3, 0), &tree);
+    put_field(rt, &mut tree, k, field, value)?;
+    tell_r(rt, ask(3, 2, 3, 0), &tree)
 }
 
 // R's tree with two fields of the root changed.
-fn with_both(one: u8, first: u64, two: u8, second: u64) {
-    print(b"R, node 0");
+fn with_both(rt: HostRuntime, one: u8, first: u64, two: u8, second: u64) -> io::Result<()> {
+    print(rt, b"R, node 0")?;
     let mut tree = tree_r();
-    put_field(&mut tree, 0, one, first);
-    put_field(&mut tree, 0, two, second);
-    tell_r(ask(3, 2, 3, 0), &tree);
+    put_field(rt, &mut tree, 0, one, first)?;
+    put_field(rt, &mut tree, 0, two, second)?;
+    tell_r(rt, ask(3, 2, 3, 0), &tree)
 }
 
 // Three nodes for "true holds at 3": a leaf, a leaf with this parent, and a node with this child.
-fn strays(parent: u32, first: u32) {
-    print(b"true, parent and first");
-    number(parent as u64);
-    number(first as u64);
+fn strays(rt: HostRuntime, parent: u32, first: u32) -> io::Result<()> {
+    print(rt, b"true, parent and first")?;
+    number(rt, parent as u64)?;
+    number(rt, first as u64)?;
     let mut tree = [0u8; 120];
     put_bytes(&mut tree, 0, &node(3, 0, 0, 0, 0, 0, 0, 15, 0, 0, 0, 0));
     put_bytes(
@@ -395,135 +417,136 @@ fn strays(parent: u32, first: u32) {
         80,
         &node(3, 0, 0, 0, first, 0, 1, 15, 0, 0, 0, 0),
     );
-    tell_r(ask(3, 0, 3, 0), &tree);
+    tell_r(rt, ask(3, 0, 3, 0), &tree)
 }
 
 // A root alone for "true holds at 3", with this child.
-fn alone(first: u32) {
-    print(b"true, first");
-    number(first as u64);
+fn alone(rt: HostRuntime, first: u32) -> io::Result<()> {
+    print(rt, b"true, first")?;
+    number(rt, first as u64)?;
     let tree = node(3, 0, 0, 0, first, 0, 1, 15, 0, 0, 0, 0);
-    tell_r(ask(3, 0, 3, 0), &tree);
+    tell_r(rt, ask(3, 0, 3, 0), &tree)
 }
 
 // 20
-fn links() {
-    with(0, PARENT, 1); // the root's parent is not 0
-    strays(2, 1); // node 1 has a parent that counts it and is not lower
-    strays(0, 3); // node 1 has a parent that is lower and does not count it
-    with(1, FIRST, 1); // a leaf with a first child
-    with(2, PARENT, 1); // the root's children are not consecutive
-    alone(0); // a child that names the root and is not above
-    alone(1); // a child outside the table
-    with(4, PARENT, 0); // the child of node 2 names another parent
+fn links(rt: HostRuntime) -> io::Result<()> {
+    with(rt, 0, PARENT, 1)?; // the root's parent is not 0
+    strays(rt, 2, 1)?; // node 1 has a parent that counts it and is not lower
+    strays(rt, 0, 3)?; // node 1 has a parent that is lower and does not count it
+    with(rt, 1, FIRST, 1)?; // a leaf with a first child
+    with(rt, 2, PARENT, 1)?; // the root's children are not consecutive
+    alone(rt, 0)?; // a child that names the root and is not above
+    alone(rt, 1)?; // a child outside the table
+    with(rt, 4, PARENT, 0) // the child of node 2 names another parent
 }
 
 // 21: a field out of its range. In phase 1 anchor, kept and round need not be zero; rule 4 chooses a transition.
-fn ranges() {
-    with(0, MARKING, 8);
-    with_both(PHASE, 1, ANCHOR, 8);
-    with_both(PHASE, 1, KEPT, 8);
-    with_both(RULE, 4, TRANSITION, 3);
-    with(0, FORMULA, 3);
-    with(0, SIDE, 2);
-    with(0, PHASE, 5);
-    with_both(PHASE, 1, ROUND, 65);
+fn ranges(rt: HostRuntime) -> io::Result<()> {
+    with(rt, 0, MARKING, 8)?;
+    with_both(rt, PHASE, 1, ANCHOR, 8)?;
+    with_both(rt, PHASE, 1, KEPT, 8)?;
+    with_both(rt, RULE, 4, TRANSITION, 3)?;
+    with(rt, 0, FORMULA, 3)?;
+    with(rt, 0, SIDE, 2)?;
+    with(rt, 0, PHASE, 5)?;
+    with_both(rt, PHASE, 1, ROUND, 65)
 }
 
 // 21: a field that is not zero where it must be. Rules 6 and 15 choose no transition.
-fn required() {
-    with(0, ANCHOR, 1);
-    with(0, KEPT, 1);
-    with(0, ROUND, 1);
-    with_both(PHASE, 4, ROUND, 1);
-    with(0, TRANSITION, 1);
-    with(22, TRANSITION, 1);
+fn required(rt: HostRuntime) -> io::Result<()> {
+    with(rt, 0, ANCHOR, 1)?;
+    with(rt, 0, KEPT, 1)?;
+    with(rt, 0, ROUND, 1)?;
+    with_both(rt, PHASE, 4, ROUND, 1)?;
+    with(rt, 0, TRANSITION, 1)?;
+    with(rt, 22, TRANSITION, 1)
 }
 
 // Fields at the end of their range: the next fault is told.
-fn inside() {
-    with(0, MARKING, 7);
-    with_both(PHASE, 1, ANCHOR, 7);
-    with_both(PHASE, 1, KEPT, 7);
-    with_both(PHASE, 1, ROUND, 64);
-    with(0, PHASE, 4);
-    with_both(RULE, 2, TRANSITION, 2);
+fn inside(rt: HostRuntime) -> io::Result<()> {
+    with(rt, 0, MARKING, 7)?;
+    with_both(rt, PHASE, 1, ANCHOR, 7)?;
+    with_both(rt, PHASE, 1, KEPT, 7)?;
+    with_both(rt, PHASE, 1, ROUND, 64)?;
+    with(rt, 0, PHASE, 4)?;
+    with_both(rt, RULE, 2, TRANSITION, 2)
 }
 
 // 22: the root is not the ask in phase 0.
-fn roots() {
-    with(0, MARKING, 1);
-    with(0, FORMULA, 1);
-    with(0, SIDE, 1);
-    with(0, PHASE, 1);
+fn roots(rt: HostRuntime) -> io::Result<()> {
+    with(rt, 0, MARKING, 1)?;
+    with(rt, 0, FORMULA, 1)?;
+    with(rt, 0, SIDE, 1)?;
+    with(rt, 0, PHASE, 1)
 }
 
 // 23, 24 and 25: the rule and the number of children.
-fn rules() {
-    with(0, RULE, 0); // unknown
-    with(0, RULE, 19);
-    with(0, RULE, 34);
-    with(0, RULE, 31); // for the other side
-    with(0, RULE, 15); // for another operator
-    with(0, RULE, 8); // for another phase
-    with(0, RULE, 7); // on the trail
-    with(0, CHILDREN, 2);
+fn rules(rt: HostRuntime) -> io::Result<()> {
+    with(rt, 0, RULE, 0)?; // unknown
+    with(rt, 0, RULE, 19)?;
+    with(rt, 0, RULE, 34)?;
+    with(rt, 0, RULE, 31)?; // for the other side
+    with(rt, 0, RULE, 15)?; // for another operator
+    with(rt, 0, RULE, 8)?; // for another phase
+    with(rt, 0, RULE, 7)?; // on the trail
+    with(rt, 0, CHILDREN, 2)
 }
 
 // 26: a field of node 4, the child of node 2, is not the one that node 2 gives.
-fn sequents() {
-    with(4, MARKING, 1);
-    with(4, ANCHOR, 1);
-    with(4, KEPT, 2);
-    with(4, FORMULA, 1);
-    with(4, SIDE, 1);
-    with(4, PHASE, 2);
-    with(4, ROUND, 1);
+fn sequents(rt: HostRuntime) -> io::Result<()> {
+    with(rt, 4, MARKING, 1)?;
+    with(rt, 4, ANCHOR, 1)?;
+    with(rt, 4, KEPT, 2)?;
+    with(rt, 4, FORMULA, 1)?;
+    with(rt, 4, SIDE, 1)?;
+    with(rt, 4, PHASE, 2)?;
+    with(rt, 4, ROUND, 1)
 }
 
 // ---- R's tables
 
 // Prints a table, a line for each record: its name and its bytes.
-fn records(name: &[u8], table: &[u8], size: usize)
+fn records(rt: HostRuntime, name: &[u8], table: &[u8], size: usize) -> io::Result<()>
     requires { 0 < size }
 {
     let mut i = 0;
     while i < table.len() {
         if i % size == 0 {
-            print(name);
+            print(rt, name)?;
         }
-        number(table[i] as u64);
+        number(rt, table[i] as u64)?;
         i += 1;
         if i % size == 0 {
-            end();
+            end(rt)?;
         }
     }
+    Ok(())
 }
 
 // The tables of "R holds 2", which examples/r and the host tests have too.
-fn tables() {
-    records(b"R ASK:", &ask(3, 2, 3, 0), 12);
-    records(b"R NET:", &net_r(), 24);
-    records(b"R FORMULA:", &formulas_r(), 8);
-    records(b"R TREE:", &tree_r(), 40);
+fn tables(rt: HostRuntime) -> io::Result<()> {
+    records(rt, b"R ASK:", &ask(3, 2, 3, 0), 12)?;
+    records(rt, b"R NET:", &net_r(), 24)?;
+    records(rt, b"R FORMULA:", &formulas_r(), 8)?;
+    records(rt, b"R TREE:", &tree_r(), 40)
 }
 
-pub(crate) fn print_all() {
-    starred();
-    asks();
-    nets();
-    optionals();
-    formulas();
-    sizes();
-    many();
-    edge(64);
-    edge(63);
-    links();
-    ranges();
-    required();
-    inside();
-    roots();
-    rules();
-    sequents();
-    tables();
+pub(crate) fn print_all(rt: HostRuntime) -> io::Result<()> {
+    starred(rt)?;
+    asks(rt)?;
+    nets(rt)?;
+    optionals(rt)?;
+    formulas(rt)?;
+    sizes(rt)?;
+    many(rt)?;
+    edge(rt, 64)?;
+    edge(rt, 63)?;
+    links(rt)?;
+    ranges(rt)?;
+    required(rt)?;
+    inside(rt)?;
+    roots(rt)?;
+    rules(rt)?;
+    sequents(rt)?;
+    tables(rt)
 }

@@ -3,6 +3,7 @@
 use crate::lines::{end, number, print};
 use crate::names::print_name;
 use sample_labels::put_record;
+use std::io;
 
 // ---- one line
 
@@ -12,27 +13,35 @@ fn wide(b: u8) -> u64 {
 }
 
 // Prints each byte as a number.
-fn bytes(text: &[u8]) {
+fn bytes(rt: HostRuntime, text: &[u8]) -> io::Result<()> {
     let mut i: usize = 0;
     while i < text.len() {
-        number(wide(text[i]));
+        number(rt, wide(text[i]))?;
         i += 1;
     }
+    Ok(())
 }
 
 // Checks a translation and a house file, looks an action's label up, and prints what comes.
-fn lookup<'a>(names: &[u8], i: u32, translation: &'a [u8], house: &'a [u8], action: u16) {
+fn lookup<'a>(
+    rt: HostRuntime,
+    names: &[u8],
+    i: u32,
+    translation: &'a [u8],
+    house: &'a [u8],
+    action: u16,
+) -> io::Result<()> {
     let said = category::check_numbers(category::check(translation, house));
     let place = category::place(translation, house, action);
-    print(b"label, ");
-    print_name(names, i);
-    number(said.number as u64);
-    number(said.place);
-    number(place.file as u64);
-    number(place.offset as u64);
-    number(place.length as u64);
-    bytes(category::label(translation, house, action));
-    end();
+    print(rt, b"label, ")?;
+    print_name(rt, names, i)?;
+    number(rt, said.number as u64)?;
+    number(rt, said.place)?;
+    number(rt, place.file as u64)?;
+    number(rt, place.offset as u64)?;
+    number(rt, place.length as u64)?;
+    bytes(rt, category::label(translation, house, action))?;
+    end(rt)
 }
 
 // ---- files by their records
@@ -92,24 +101,31 @@ fn table(file: Contents) -> [u8; 64] {
 }
 
 // Looks a label up in two files.
-fn sample(names: &[u8], i: u32, translation: Contents, house: Contents, action: u16) {
+fn sample(
+    rt: HostRuntime,
+    names: &[u8],
+    i: u32,
+    translation: Contents,
+    house: Contents,
+    action: u16,
+) -> io::Result<()> {
     let t = table(translation);
     let h = table(house);
     let n = translation.size;
     let m = house.size;
     if 64 < n {
-        return;
+        return Ok(());
     }
     if 64 < m {
-        return;
+        return Ok(());
     }
-    lookup(names, i, &t[..n], &h[..m], action);
+    lookup(rt, names, i, &t[..n], &h[..m], action)
 }
 
 // ---- labels
 
 // A label of one file or of both; files of no records.
-fn own() {
+fn own(rt: HostRuntime) -> io::Result<()> {
     let names: &[u8] = b"in both:\n\
         missing in the translation:\n\
         missing in the house file:\n\
@@ -126,43 +142,50 @@ fn own() {
         record(5, 0, 0, b'N', b'o'),
         record(600, 0, 0, b'U', b'p'),
     );
-    sample(names, 0, one, two, 5);
-    sample(names, 1, one, two, 600);
-    sample(names, 2, two, one, 600);
-    sample(names, 3, one, two, 6);
-    sample(names, 4, none, one, 5);
-    sample(names, 5, one, none, 5);
-    sample(names, 6, none, none, 5);
+    sample(rt, names, 0, one, two, 5)?;
+    sample(rt, names, 1, one, two, 600)?;
+    sample(rt, names, 2, two, one, 600)?;
+    sample(rt, names, 3, one, two, 6)?;
+    sample(rt, names, 4, none, one, 5)?;
+    sample(rt, names, 5, one, none, 5)?;
+    sample(rt, names, 6, none, none, 5)
 }
 
 // The label of an action that the house file alone has, beside a translation of the actions 5 and 600.
-fn beside(names: &[u8], i: u32, action: u16) {
+fn beside(rt: HostRuntime, names: &[u8], i: u32, action: u16) -> io::Result<()> {
     let no = record(5, 0, 0, b'N', b'o');
     let up = record(600, 0, 0, b'U', b'p');
     let go = record(action, 0, 0, b'G', b'o');
-    sample(names, i, file(64, no, up), file(32, go, no), action);
+    sample(rt, names, i, file(64, no, up), file(32, go, no), action)
 }
 
 // An action below, between and above those of the translation.
-fn gaps() {
+fn gaps(rt: HostRuntime) -> io::Result<()> {
     let names: &[u8] = b"below the first:\n\
         between two:\n\
         above the last:\n";
-    beside(names, 0, 4);
-    beside(names, 1, 6);
-    beside(names, 2, 601);
+    beside(rt, names, 0, 4)?;
+    beside(rt, names, 1, 6)?;
+    beside(rt, names, 2, 601)
 }
 
 // ---- translations of one record
 
 // A translation of one record, of action 5.
-fn single(names: &[u8], i: u32, kind: u8, lender: u16, text: &[u8]) {
+fn single(
+    rt: HostRuntime,
+    names: &[u8],
+    i: u32,
+    kind: u8,
+    lender: u16,
+    text: &[u8],
+) -> io::Result<()> {
     let file = sample_labels::record(5, kind, lender, text);
-    lookup(names, i, &file, b"", 5);
+    lookup(rt, names, i, &file, b"", 5)
 }
 
 // Texts, good and faulty; kinds above 0 and lenders.
-fn texts() {
+fn texts(rt: HostRuntime) -> io::Result<()> {
     let names: &[u8] = b"text of 24 bytes:\n\
         byte 0x1F:\n\
         bytes 0x20 and 0x7E:\n\
@@ -177,26 +200,26 @@ fn texts() {
         kind 1 and a lender:\n\
         kind 1 without a text:\n\
         kind 2:\n";
-    single(names, 0, 0, 0, b"ABCDEFGHIJKLMNOPQRSTUVWX");
-    single(names, 1, 0, 0, b"\x1F");
-    single(names, 2, 0, 0, b"\x20\x7E");
-    single(names, 3, 0, 0, b"A\x7F");
-    single(names, 4, 0, 0, b"A\x80");
-    single(names, 5, 0, 0, b"A\x9F");
-    single(names, 6, 0, 0, b"\xA0\xFF");
-    single(names, 7, 0, 0, b"");
-    single(names, 8, 0, 0, b"A\0B");
-    single(names, 9, 0, 5, b"Go");
-    single(names, 10, 1, 0, b"Go");
-    single(names, 11, 1, 5, b"Go");
-    single(names, 12, 1, 5, b"");
-    single(names, 13, 2, 0, b"Go");
+    single(rt, names, 0, 0, 0, b"ABCDEFGHIJKLMNOPQRSTUVWX")?;
+    single(rt, names, 1, 0, 0, b"\x1F")?;
+    single(rt, names, 2, 0, 0, b"\x20\x7E")?;
+    single(rt, names, 3, 0, 0, b"A\x7F")?;
+    single(rt, names, 4, 0, 0, b"A\x80")?;
+    single(rt, names, 5, 0, 0, b"A\x9F")?;
+    single(rt, names, 6, 0, 0, b"\xA0\xFF")?;
+    single(rt, names, 7, 0, 0, b"")?;
+    single(rt, names, 8, 0, 0, b"A\0B")?;
+    single(rt, names, 9, 0, 5, b"Go")?;
+    single(rt, names, 10, 1, 0, b"Go")?;
+    single(rt, names, 11, 1, 5, b"Go")?;
+    single(rt, names, 12, 1, 5, b"")?;
+    single(rt, names, 13, 2, 0, b"Go")
 }
 
 // ---- faulty records
 
 // Records of kind 1, which borrowed a text once, whose lender stands before or after; the lowest of two faults; such a house file.
-fn retired() {
+fn retired(rt: HostRuntime) -> io::Result<()> {
     let names: &[u8] = b"kind 1, lender before:\n\
         kind 1, lender before, the lender's label:\n\
         kind 1, lender after:\n\
@@ -210,23 +233,31 @@ fn retired() {
     let back = file(64, go, record(7, 1, 5, 0, 0));
     let ahead = file(64, record(5, 1, 7, 0, 0), record(7, 0, 0, b'N', b'o'));
     let empty = record(5, 0, 0, 0, 0);
-    sample(names, 0, back, none, 7);
-    sample(names, 1, back, none, 5);
-    sample(names, 2, ahead, none, 5);
-    sample(names, 3, file(64, empty, record(7, 1, 5, 0, 0)), none, 7);
+    sample(rt, names, 0, back, none, 7)?;
+    sample(rt, names, 1, back, none, 5)?;
+    sample(rt, names, 2, ahead, none, 5)?;
     sample(
+        rt,
+        names,
+        3,
+        file(64, empty, record(7, 1, 5, 0, 0)),
+        none,
+        7,
+    )?;
+    sample(
+        rt,
         names,
         4,
         file(64, record(5, 1, 7, 0, 0), record(7, 0, 0, 0, 0)),
         none,
         5,
-    );
-    sample(names, 5, none, back, 7);
-    sample(names, 6, file(32, go, zeros), back, 5);
+    )?;
+    sample(rt, names, 5, none, back, 7)?;
+    sample(rt, names, 6, file(32, go, zeros), back, 5)
 }
 
 // Actions that do not ascend.
-fn faulty() {
+fn faulty(rt: HostRuntime) -> io::Result<()> {
     let names: &[u8] = b"equal actions:\n\
         falling actions:\n";
     let zeros = record(0, 0, 0, 0, 0);
@@ -234,36 +265,43 @@ fn faulty() {
     let go = record(5, 0, 0, b'G', b'o');
     let no = record(5, 0, 0, b'N', b'o');
     let high = record(600, 0, 0, b'G', b'o');
-    sample(names, 0, file(64, go, no), none, 5);
-    sample(names, 1, file(64, high, no), none, 600);
+    sample(rt, names, 0, file(64, go, no), none, 5)?;
+    sample(rt, names, 1, file(64, high, no), none, 600)
 }
 
 // A record with these spare bytes, after a good record.
-fn spare(names: &[u8], i: u32, third: u8, sixth: u8, seventh: u8) {
+fn spare(
+    rt: HostRuntime,
+    names: &[u8],
+    i: u32,
+    third: u8,
+    sixth: u8,
+    seventh: u8,
+) -> io::Result<()> {
     let mut bytes = table(file(64, record(5, 0, 0, b'G', b'o'), record(7, 0, 0, b'N', b'o')));
     bytes[35] = third;
     bytes[38] = sixth;
     bytes[39] = seventh;
-    lookup(names, i, &bytes, b"", 7);
+    lookup(rt, names, i, &bytes, b"", 7)
 }
 
 // Each spare byte.
-fn spares() {
+fn spares(rt: HostRuntime) -> io::Result<()> {
     let names: &[u8] = b"spare bytes 0:\n\
         spare byte 3:\n\
         spare byte 6:\n\
         spare byte 7:\n";
-    spare(names, 0, 0, 0, 0);
-    spare(names, 1, 1, 0, 0);
-    spare(names, 2, 0, 1, 0);
-    spare(names, 3, 0, 0, 1);
+    spare(rt, names, 0, 0, 0, 0)?;
+    spare(rt, names, 1, 1, 0, 0)?;
+    spare(rt, names, 2, 0, 1, 0)?;
+    spare(rt, names, 3, 0, 0, 1)
 }
 
 // ---- two files
 
 // Either faulty file hides the labels of both; lengths that are no whole number of records; the translation's refusal comes before the
 // house file's.
-fn hidden() {
+fn hidden(rt: HostRuntime) -> io::Result<()> {
     let names: &[u8] = b"faulty translation, in the house file:\n\
         faulty house file, in the translation:\n\
         translation of 33 bytes:\n\
@@ -281,74 +319,82 @@ fn hidden() {
     let long = file(33, go, zeros);
     let empty = file(32, zeros, zeros);
     let equal = file(64, go, record(5, 0, 0, b'N', b'o'));
-    sample(names, 0, bad, good, 5);
-    sample(names, 1, good, bad, 5);
-    sample(names, 2, long, none, 5);
-    sample(names, 3, none, long, 5);
-    sample(names, 4, file(31, zeros, zeros), none, 5);
-    sample(names, 5, equal, long, 5);
-    sample(names, 6, long, equal, 5);
-    sample(names, 7, equal, empty, 5);
-    sample(names, 8, empty, equal, 5);
+    sample(rt, names, 0, bad, good, 5)?;
+    sample(rt, names, 1, good, bad, 5)?;
+    sample(rt, names, 2, long, none, 5)?;
+    sample(rt, names, 3, none, long, 5)?;
+    sample(rt, names, 4, file(31, zeros, zeros), none, 5)?;
+    sample(rt, names, 5, equal, long, 5)?;
+    sample(rt, names, 6, long, equal, 5)?;
+    sample(rt, names, 7, equal, empty, 5)?;
+    sample(rt, names, 8, empty, equal, 5)
 }
 
 // ---- the number of records
 
 // The first bytes of a file of 2,001 records, as the translation and as the house file.
-fn many(names: &[u8], i: u32, j: u32, size: usize) {
+fn many(rt: HostRuntime, names: &[u8], i: u32, j: u32, size: usize) -> io::Result<()> {
     let mut file = [0u8; 64032];
     sample_labels::fill(&mut file, 2001);
     if 64032 < size {
-        return;
+        return Ok(());
     }
     let part: &[u8] = &file[..size];
-    lookup(names, i, part, b"", 1999);
-    lookup(names, j, b"", part, 27);
+    lookup(rt, names, i, part, b"", 1999)?;
+    lookup(rt, names, j, b"", part, 27)
 }
 
 // The most records, and one record more.
-fn most() {
+fn most(rt: HostRuntime) -> io::Result<()> {
     let names: &[u8] = b"2000 records:\n\
         2000 records in the house file:\n\
         2001 records:\n\
         2001 records in the house file:\n";
-    many(names, 0, 1, 64000);
-    many(names, 2, 3, 64032);
+    many(rt, names, 0, 1, 64000)?;
+    many(rt, names, 2, 3, 64032)
 }
 
 // ---- texts of one file, which is not checked
 
 // Looks the text of an action up, and prints what comes.
-fn text(names: &[u8], i: u32, file: &[u8], action: u16) {
+fn text(rt: HostRuntime, names: &[u8], i: u32, file: &[u8], action: u16) -> io::Result<()> {
     let found = category::text(file, action);
-    print(b"text, ");
-    print_name(names, i);
-    number(found.len() as u64);
-    bytes(found);
-    end();
+    print(rt, b"text, ")?;
+    print_name(rt, names, i)?;
+    number(rt, found.len() as u64)?;
+    bytes(rt, found)?;
+    end(rt)
 }
 
 // Looks a text up in a file of at most two records.
-fn alone(names: &[u8], i: u32, file: Contents, action: u16) {
+fn alone(rt: HostRuntime, names: &[u8], i: u32, file: Contents, action: u16) -> io::Result<()> {
     let t = table(file);
     let n = file.size;
     if 64 < n {
-        return;
+        return Ok(());
     }
-    text(names, i, &t[..n], action);
+    text(rt, names, i, &t[..n], action)
 }
 
 // Looks a text up in a file of three records.
-fn three(names: &[u8], i: u32, first: Fields, second: Fields, third: Fields, action: u16) {
+fn three(
+    rt: HostRuntime,
+    names: &[u8],
+    i: u32,
+    first: Fields,
+    second: Fields,
+    third: Fields,
+    action: u16,
+) -> io::Result<()> {
     let mut t = [0u8; 96];
     put(&mut t, 0, first);
     put(&mut t, 1, second);
     put(&mut t, 2, third);
-    text(names, i, &t, action);
+    text(rt, names, i, &t, action)
 }
 
 // Actions that the file has and lacks; records out of order; a record that is not whole; kinds and a lender, which are not looked at.
-fn order() {
+fn order(rt: HostRuntime) -> io::Result<()> {
     let names: &[u8] = b"below the first:\n\
         the first:\n\
         between two:\n\
@@ -366,30 +412,36 @@ fn order() {
     let go = record(7, 0, 0, b'G', b'o');
     let up = record(600, 0, 0, b'U', b'p');
     let two = file(64, no, up);
-    alone(names, 0, two, 4);
-    alone(names, 1, two, 5);
-    alone(names, 2, two, 6);
-    alone(names, 3, two, 600);
-    alone(names, 4, two, 601);
-    three(names, 5, up, no, go, 5);
-    three(names, 6, no, up, go, 5);
-    three(names, 7, no, up, go, 7);
-    alone(names, 8, file(64, no, record(5, 0, 0, b'G', b'o')), 5);
-    alone(names, 9, file(63, no, up), 600);
-    alone(names, 10, file(32, record(5, 2, 0, b'N', b'o'), up), 5);
-    alone(names, 11, file(64, record(5, 1, 600, b'N', b'o'), up), 5);
-    alone(names, 12, file(64, record(5, 1, 600, 0, 0), up), 5);
+    alone(rt, names, 0, two, 4)?;
+    alone(rt, names, 1, two, 5)?;
+    alone(rt, names, 2, two, 6)?;
+    alone(rt, names, 3, two, 600)?;
+    alone(rt, names, 4, two, 601)?;
+    three(rt, names, 5, up, no, go, 5)?;
+    three(rt, names, 6, no, up, go, 5)?;
+    three(rt, names, 7, no, up, go, 7)?;
+    alone(rt, names, 8, file(64, no, record(5, 0, 0, b'G', b'o')), 5)?;
+    alone(rt, names, 9, file(63, no, up), 600)?;
+    alone(rt, names, 10, file(32, record(5, 2, 0, b'N', b'o'), up), 5)?;
+    alone(
+        rt,
+        names,
+        11,
+        file(64, record(5, 1, 600, b'N', b'o'), up),
+        5,
+    )?;
+    alone(rt, names, 12, file(64, record(5, 1, 600, 0, 0), up), 5)
 }
 
 // All samples of labels and of category files.
-pub(crate) fn print_all() {
-    own();
-    gaps();
-    texts();
-    retired();
-    faulty();
-    spares();
-    hidden();
-    most();
-    order();
+pub(crate) fn print_all(rt: HostRuntime) -> io::Result<()> {
+    own(rt)?;
+    gaps(rt)?;
+    texts(rt)?;
+    retired(rt)?;
+    faulty(rt)?;
+    spares(rt)?;
+    hidden(rt)?;
+    most(rt)?;
+    order(rt)
 }

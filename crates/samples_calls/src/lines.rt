@@ -1,18 +1,17 @@
 // What the samples' lines have in common: bytes, numbers, the end of a line. Each goes to standard output.
-use libc::STDOUT_FILENO;
+use std::io;
 
 // Prints some bytes.
-pub(crate) fn print(bytes: &[u8]) {
-    io::write_all(STDOUT_FILENO, bytes);
+pub(crate) fn print(rt: HostRuntime, bytes: &[u8]) -> io::Result<()> {
+    rt.write_all(bytes)
 }
 
 // Prints a number after a space.
-pub(crate) fn number(n: u64) {
-    io::write_all(STDOUT_FILENO, b" ");
-    io::print_decimal(STDOUT_FILENO, n);
+pub(crate) fn number(rt: HostRuntime, n: u64) -> io::Result<()> {
+    print!(rt; " {n}")
 }
 
 // Ends the line.
-pub(crate) fn end() {
-    io::write_all(STDOUT_FILENO, b"\n");
+pub(crate) fn end(rt: HostRuntime) -> io::Result<()> {
+    rt.write_all(b"\n")
 }

@@ -8,9 +8,11 @@ mod nets;
 mod orders;
 mod walks;
 
-fn main() {
-    nets::print_all();
-    walks::print_all();
-    orders::print_all();
-    labels::print_all();
+use std::io;
+
+fn main(rt: HostRuntime) -> io::Result<()> {
+    nets::print_all(rt)?;
+    walks::print_all(rt)?;
+    orders::print_all(rt)?;
+    labels::print_all(rt)
 }

@@ -2,6 +2,7 @@
 ghost use Rattle.std.specs.Prelude.{◌≤◌, length};
 
 use crate::lines::print;
+use std::io;
 
 // Where the line that has an offset of a text ends.
 fn line_end(text: &[u8], from: usize) -> usize
@@ -19,17 +20,17 @@ fn line_end(text: &[u8], from: usize) -> usize
 }
 
 // Prints line i of a text.
-pub(crate) fn print_name(text: &[u8], i: u32) {
+pub(crate) fn print_name(rt: HostRuntime, text: &[u8], i: u32) -> io::Result<()> {
     let mut at = 0;
     let mut left = i;
     while 0 < left {
         let end = line_end(text, at);
         if end == text.len() {
-            return;
+            return Ok(());
         }
         at = end + 1;
         left -= 1;
     }
     let end = line_end(text, at);
-    print(&text[at..end]);
+    print(rt, &text[at..end])
 }

@@ -11,8 +11,10 @@ mod lines;
 mod many;
 mod refusals;
 
-fn main() {
-    dead::print_all();
-    many::print_all();
-    refusals::print_all();
+use std::io;
+
+fn main(rt: HostRuntime) -> io::Result<()> {
+    dead::print_all(rt)?;
+    many::print_all(rt)?;
+    refusals::print_all(rt)
 }

@@ -3,25 +3,26 @@ use crate::calls::compact;
 use crate::given::{chain, many_formulas, tree_not, tree_true};
 use sample_nets::transition;
 use sample_trees::ask;
+use std::io;
 
 // Record f of 256, which is true.
-fn one(name: &[u8], f: u16) {
+fn one(rt: HostRuntime, name: &[u8], f: u16) -> io::Result<()> {
     let net = transition(0, 0, 0);
     let asked = ask(1, f, 1, 0);
-    compact(name, &asked, &net, &many_formulas(), &tree_true(f));
+    compact(rt, name, &asked, &net, &many_formulas(), &tree_true(f))
 }
 
 // Record f of a table, which is "not" of record 0.
-fn two(name: &[u8], f: u16, formulas: &[u8]) {
+fn two(rt: HostRuntime, name: &[u8], f: u16, formulas: &[u8]) -> io::Result<()> {
     let net = transition(0, 0, 0);
     let asked = ask(1, f, 1, 1);
-    compact(name, &asked, &net, formulas, &tree_not(f, 0));
+    compact(rt, name, &asked, &net, formulas, &tree_not(f, 0))
 }
 
 // One reached, the first or the last; two reached.
-pub(crate) fn print_all() {
-    one(b"256 records, the first reached", 0);
-    one(b"256 records, the last reached", 255);
-    two(b"256 records, two reached", 254, &many_formulas());
-    two(b"a chain of 256 records, two reached", 1, &chain());
+pub(crate) fn print_all(rt: HostRuntime) -> io::Result<()> {
+    one(rt, b"256 records, the first reached", 0)?;
+    one(rt, b"256 records, the last reached", 255)?;
+    two(rt, b"256 records, two reached", 254, &many_formulas())?;
+    two(rt, b"a chain of 256 records, two reached", 1, &chain())
 }

@@ -1,14 +1,15 @@
 // The lines of a conversion, and of a category file before and after it.
 use crate::lines::{FILL, end, number, print, told};
 use sample_bytes::{alike, count};
+use std::io;
 
 // Prints how many bytes of a room from an offset on are as they were before the call, of how many.
-fn kept(room: &[u8], from: usize) {
+fn kept(rt: HostRuntime, room: &[u8], from: usize) -> io::Result<()> {
     if room.len() < from {
-        return;
+        return Ok(());
     }
-    told(b", kept", count(&room[from..], FILL) as u64);
-    told(b" of", (room.len() - from) as u64);
+    told(rt, b", kept", count(&room[from..], FILL) as u64)?;
+    told(rt, b" of", (room.len() - from) as u64)
 }
 
 // How many bytes of the room an answer's number says are written.
@@ -20,86 +21,94 @@ fn written(number: u32, file: &[u8]) -> usize {
 }
 
 // Converts a file into a room: the number of the answer. Prints the numbers, and how much of the rest of the room is as it was.
-fn convert(name: &[u8], file: &[u8], room: &mut [u8]) -> u32 {
+fn convert(rt: HostRuntime, name: &[u8], file: &[u8], room: &mut [u8]) -> io::Result<u32> {
     let said = category_convert::convert_numbers(category_convert::convert(file, room));
-    print(name);
-    print(b":");
-    number(said.number as u64);
-    number(said.place);
-    number(said.rewritten);
-    kept(room, written(said.number, file));
-    end();
-    said.number
+    print(rt, name)?;
+    print(rt, b":")?;
+    number(rt, said.number as u64)?;
+    number(rt, said.place)?;
+    number(rt, said.rewritten)?;
+    kept(rt, room, written(said.number, file))?;
+    end(rt)?;
+    Ok(said.number)
 }
 
 // Prints the label of an action from a house file alone, as that part of the file.
-fn label(file: &[u8], action: u16) {
+fn label(rt: HostRuntime, file: &[u8], action: u16) -> io::Result<()> {
     let place = category::place(b"", file, action);
-    told(b", label", action as u64);
-    number(place.offset as u64);
-    number(place.length as u64);
-    print(b" [");
-    print(category::label(b"", file, action));
-    print(b"]");
+    told(rt, b", label", action as u64)?;
+    number(rt, place.offset as u64)?;
+    number(rt, place.length as u64)?;
+    print(rt, b" [")?;
+    print(rt, category::label(b"", file, action))?;
+    print(rt, b"]")
 }
 
 // Prints what the check says of a house file, and the labels of three actions that follow each other.
-fn state(name: &[u8], when: &[u8], file: &[u8], action: u16) {
+fn state(rt: HostRuntime, name: &[u8], when: &[u8], file: &[u8], action: u16) -> io::Result<()> {
     let said = category::check_numbers(category::check(b"", file));
-    print(name);
-    print(when);
-    number(said.number as u64);
-    number(said.place);
+    print(rt, name)?;
+    print(rt, when)?;
+    number(rt, said.number as u64)?;
+    number(rt, said.place)?;
     if action < 65533 {
-        label(file, action);
-        label(file, action + 1);
-        label(file, action + 2);
+        label(rt, file, action)?;
+        label(rt, file, action + 1)?;
+        label(rt, file, action + 2)?;
     }
-    end();
+    end(rt)
 }
 
 // Converts what was converted once more, and prints how many bytes at the start of both rooms are the same.
-fn again(name: &[u8], file: &[u8], room: &mut [u8]) {
-    convert(name, file, room);
-    print(name);
-    told(b", the same:", alike(file, room) as u64);
-    end();
+fn again(rt: HostRuntime, name: &[u8], file: &[u8], room: &mut [u8]) -> io::Result<()> {
+    convert(rt, name, file, room)?;
+    print(rt, name)?;
+    told(rt, b", the same:", alike(file, room) as u64)?;
+    end(rt)
 }
 
 // A file before its conversion, the conversion, the converted file, and its conversion into another room.
 pub(crate) fn convert_good(
+    rt: HostRuntime,
     name: &[u8],
     file: &[u8],
     room: &mut [u8],
     other: &mut [u8],
     action: u16,
-) {
-    state(name, b", before:", file, action);
-    let answer = convert(name, file, room);
+) -> io::Result<()> {
+    state(rt, name, b", before:", file, action)?;
+    let answer = convert(rt, name, file, room)?;
     if answer != 0 {
-        return;
+        return Ok(());
     }
     if room.len() < file.len() {
-        return;
+        return Ok(());
     }
     let converted: &[u8] = &room[..file.len()];
-    state(name, b", after:", converted, action);
-    again(b"  once more", converted, other);
+    state(rt, name, b", after:", converted, action)?;
+    again(rt, b"  once more", converted, other)
 }
 
 // Converts a file into a room of so many bytes, at most 160.
-pub(crate) fn convert_in(name: &[u8], file: &[u8], size: usize) {
+pub(crate) fn convert_in(rt: HostRuntime, name: &[u8], file: &[u8], size: usize) -> io::Result<()> {
     let mut room = [FILL; 160];
     if 160 < size {
-        return;
+        return Ok(());
     }
-    convert(name, file, &mut room[..size]);
+    convert(rt, name, file, &mut room[..size])?;
+    Ok(())
 }
 
 // The same with the first bytes of a file.
-pub(crate) fn convert_cut(name: &[u8], file: &[u8], length: usize, size: usize) {
+pub(crate) fn convert_cut(
+    rt: HostRuntime,
+    name: &[u8],
+    file: &[u8],
+    length: usize,
+    size: usize,
+) -> io::Result<()> {
     if file.len() < length {
-        return;
+        return Ok(());
     }
-    convert_in(name, &file[..length], size);
+    convert_in(rt, name, &file[..length], size)
 }

@@ -2,6 +2,7 @@
 use crate::calls::{convert_cut, convert_good, convert_in};
 use crate::lines::FILL;
 use sample_labels::{fill, put_record};
+use std::io;
 
 // Lets each record with an odd number borrow from the one as far from the file's end, so that lenders stand behind and before.
 fn borrow_odd(file: &mut [u8]) {
@@ -22,34 +23,34 @@ fn borrow_last(file: &mut [u8]) {
 }
 
 // Converts a file of 2,000 records, and prints some labels.
-fn most(name: &[u8], file: &[u8; 64000], action: u16) {
+fn most(rt: HostRuntime, name: &[u8], file: &[u8; 64000], action: u16) -> io::Result<()> {
     let mut room = [FILL; 64003];
     let mut other = [FILL; 64000];
-    convert_good(name, file, &mut room, &mut other, action);
+    convert_good(rt, name, file, &mut room, &mut other, action)
 }
 
 // None, half and nearly all of 2,000 records borrow.
-fn borrowed() {
+fn borrowed(rt: HostRuntime) -> io::Result<()> {
     let mut file = [0u8; 64000];
     fill(&mut file, 2000);
-    most(b"2000 records, none borrows", &file, 1997);
+    most(rt, b"2000 records, none borrows", &file, 1997)?;
     borrow_odd(&mut file);
-    most(b"2000 records, each second borrows", &file, 1);
+    most(rt, b"2000 records, each second borrows", &file, 1)?;
     fill(&mut file, 2000);
     borrow_last(&mut file);
-    most(b"2000 records, all but one borrow", &file, 1997);
+    most(rt, b"2000 records, all but one borrow", &file, 1997)
 }
 
 // One record too many, also where the room is short.
-fn too_many() {
+fn too_many(rt: HostRuntime) -> io::Result<()> {
     let mut file = [0u8; 64032];
     fill(&mut file, 2001);
-    convert_in(b"2001 records", &file, 160);
-    convert_cut(b"2000 records, short room", &file, 64000, 160);
+    convert_in(rt, b"2001 records", &file, 160)?;
+    convert_cut(rt, b"2000 records, short room", &file, 64000, 160)
 }
 
 // All of them.
-pub(crate) fn print_all() {
-    borrowed();
-    too_many();
+pub(crate) fn print_all(rt: HostRuntime) -> io::Result<()> {
+    borrowed(rt)?;
+    too_many(rt)
 }

@@ -9,8 +9,10 @@ mod large;
 mod lines;
 mod refusals;
 
-fn main() {
-    files::print_all();
-    refusals::print_all();
-    large::print_all();
+use std::io;
+
+fn main(rt: HostRuntime) -> io::Result<()> {
+    files::print_all(rt)?;
+    refusals::print_all(rt)?;
+    large::print_all(rt)
 }

@@ -10,8 +10,10 @@ mod lines;
 mod refusals;
 mod sizes;
 
-fn main() {
-    halves::print_all();
-    refusals::print_all();
-    sizes::print_all();
+use std::io;
+
+fn main(rt: HostRuntime) -> io::Result<()> {
+    halves::print_all(rt)?;
+    refusals::print_all(rt)?;
+    sizes::print_all(rt)
 }

@@ -2,6 +2,7 @@
 use crate::calls::{join, transition};
 use crate::lines::FILL;
 use sample_nets::{net_r, put_transition};
+use std::io;
 
 // Lets each of the first transitions, at most 64, loop at the place of its number.
 fn loops(table: &mut [u8], count: u32) {
@@ -16,11 +17,12 @@ fn loops(table: &mut [u8], count: u32) {
 }
 
 // 32 places with 32 transitions beside as many.
-fn thirty_two() {
+fn thirty_two(rt: HostRuntime) -> io::Result<()> {
     let mut half = [0u8; 768];
     let mut room = [FILL; 1539];
     loops(&mut half, 32);
     let said = join(
+        rt,
         b"32 places and 32 transitions, twice",
         32,
         4294967295,
@@ -29,44 +31,46 @@ fn thirty_two() {
         4294967295,
         &half,
         &mut room,
-    );
+    )?;
     let table: &[u8] = &room[..1536];
-    transition(said.places, said.marking, table, 0);
-    transition(said.places, said.marking, table, 31);
-    transition(said.places, said.marking, table, 32);
-    transition(said.places, said.marking, table, 63);
+    transition(rt, said.places, said.marking, table, 0)?;
+    transition(rt, said.places, said.marking, table, 31)?;
+    transition(rt, said.places, said.marking, table, 32)?;
+    transition(rt, said.places, said.marking, table, 63)
 }
 
 // R with more places, beside R with more places.
-fn places_of(name: &[u8], first: u32, second: u32) {
+fn places_of(rt: HostRuntime, name: &[u8], first: u32, second: u32) -> io::Result<()> {
     let r = net_r();
     let mut room = [FILL; 144];
-    join(name, first, 3, &r, second, 3, &r, &mut room);
+    join(rt, name, first, 3, &r, second, 3, &r, &mut room)?;
+    Ok(())
 }
 
 // Places around the sum of 64.
-fn places() {
-    places_of(b"33 and 32 places", 33, 32);
-    places_of(b"32 and 33 places", 32, 33);
-    places_of(b"64 and 3 places", 64, 3);
-    places_of(b"3 and 64 places", 3, 64);
-    places_of(b"64 and 64 places", 64, 64);
-    places_of(b"61 and 3 places", 61, 3);
-    places_of(b"3 and 61 places", 3, 61);
+fn places(rt: HostRuntime) -> io::Result<()> {
+    places_of(rt, b"33 and 32 places", 33, 32)?;
+    places_of(rt, b"32 and 33 places", 32, 33)?;
+    places_of(rt, b"64 and 3 places", 64, 3)?;
+    places_of(rt, b"3 and 64 places", 3, 64)?;
+    places_of(rt, b"64 and 64 places", 64, 64)?;
+    places_of(rt, b"61 and 3 places", 61, 3)?;
+    places_of(rt, b"3 and 61 places", 3, 61)
 }
 
 // One place each, so many records that touch none.
-fn records_of(name: &[u8], first: usize, second: usize) {
+fn records_of(rt: HostRuntime, name: &[u8], first: usize, second: usize) -> io::Result<()> {
     let one = [0u8; 1536];
     let other = [0u8; 1536];
     let mut room = [FILL; 1539];
     if 64 < first {
-        return;
+        return Ok(());
     }
     if 64 < second {
-        return;
+        return Ok(());
     }
     join(
+        rt,
         name,
         1,
         1,
@@ -75,41 +79,43 @@ fn records_of(name: &[u8], first: usize, second: usize) {
         1,
         &other[..second * 24],
         &mut room,
-    );
+    )?;
+    Ok(())
 }
 
 // Transitions around the sum of 64.
-fn counts() {
-    records_of(b"33 and 32 transitions", 33, 32);
-    records_of(b"1 and 64 transitions", 1, 64);
-    records_of(b"64 and 1 transitions", 64, 1);
-    records_of(b"64 and 64 transitions", 64, 64);
-    records_of(b"63 and 1 transitions", 63, 1);
-    records_of(b"1 and 63 transitions", 1, 63);
+fn counts(rt: HostRuntime) -> io::Result<()> {
+    records_of(rt, b"33 and 32 transitions", 33, 32)?;
+    records_of(rt, b"1 and 64 transitions", 1, 64)?;
+    records_of(rt, b"64 and 1 transitions", 64, 1)?;
+    records_of(rt, b"64 and 64 transitions", 64, 64)?;
+    records_of(rt, b"63 and 1 transitions", 63, 1)?;
+    records_of(rt, b"1 and 63 transitions", 1, 63)
 }
 
 // Joins R with so many places and another net into a room that is one byte short.
-fn short(name: &[u8], places: u32, marking: u64, second: &[u8]) {
+fn short(rt: HostRuntime, name: &[u8], places: u32, marking: u64, second: &[u8]) -> io::Result<()> {
     let r = net_r();
     let mut room = [FILL; 143];
-    join(name, places, 3, &r, 3, marking, second, &mut room);
+    join(rt, name, places, 3, &r, 3, marking, second, &mut room)?;
+    Ok(())
 }
 
 // 15 comes after what is wrong with the second half, and before 12.
-fn order() {
+fn order(rt: HostRuntime) -> io::Result<()> {
     let r = net_r();
     let mut bad = net_r();
     sample_bytes::put_number(&mut bad, 42, 1, 2);
-    short(b"64 places, second bad at record 1", 64, 3, &bad);
-    short(b"64 places, second at 8", 64, 8, &r);
-    short(b"64 places, room one byte short", 64, 3, &r);
-    short(b"61 places, room one byte short", 61, 3, &r);
+    short(rt, b"64 places, second bad at record 1", 64, 3, &bad)?;
+    short(rt, b"64 places, second at 8", 64, 8, &r)?;
+    short(rt, b"64 places, room one byte short", 64, 3, &r)?;
+    short(rt, b"61 places, room one byte short", 61, 3, &r)
 }
 
 // All of them.
-pub(crate) fn print_all() {
-    thirty_two();
-    places();
-    counts();
-    order();
+pub(crate) fn print_all(rt: HostRuntime) -> io::Result<()> {
+    thirty_two(rt)?;
+    places(rt)?;
+    counts(rt)?;
+    order(rt)
 }

@@ -1,40 +1,39 @@
 // What the samples' lines have in common: bytes, numbers, the end of a line. Each goes to standard output.
-use libc::STDOUT_FILENO;
+use std::io;
 
 // The byte that fills a room before a call.
 pub(crate) const FILL: u8 = 170;
 
 // Prints some bytes.
-pub(crate) fn print(bytes: &[u8]) {
-    io::write_all(STDOUT_FILENO, bytes);
+pub(crate) fn print(rt: HostRuntime, bytes: &[u8]) -> io::Result<()> {
+    rt.write_all(bytes)
 }
 
 // Prints a number after a space.
-pub(crate) fn number(n: u64) {
-    io::write_all(STDOUT_FILENO, b" ");
-    io::print_decimal(STDOUT_FILENO, n);
+pub(crate) fn number(rt: HostRuntime, n: u64) -> io::Result<()> {
+    print!(rt; " {n}")
 }
 
 // Ends the line.
-pub(crate) fn end() {
-    io::write_all(STDOUT_FILENO, b"\n");
+pub(crate) fn end(rt: HostRuntime) -> io::Result<()> {
+    rt.write_all(b"\n")
 }
 
 // Prints a word and a number after it.
-pub(crate) fn told(word: &[u8], n: u64) {
-    print(word);
-    number(n);
+pub(crate) fn told(rt: HostRuntime, word: &[u8], n: u64) -> io::Result<()> {
+    print(rt, word)?;
+    number(rt, n)
 }
 
 // Prints how many bytes of a room are as they were before the call, of how many.
-pub(crate) fn kept(room: &[u8]) {
-    told(b", kept", sample_bytes::count(room, FILL) as u64);
-    told(b" of", room.len() as u64);
+pub(crate) fn kept(rt: HostRuntime, room: &[u8]) -> io::Result<()> {
+    told(rt, b", kept", sample_bytes::count(room, FILL) as u64)?;
+    told(rt, b" of", room.len() as u64)
 }
 
 // Prints a sample's kind and name.
-pub(crate) fn begin(kind: &[u8], name: &[u8]) {
-    print(kind);
-    print(name);
-    print(b":");
+pub(crate) fn begin(rt: HostRuntime, kind: &[u8], name: &[u8]) -> io::Result<()> {
+    print(rt, kind)?;
+    print(rt, name)?;
+    print(rt, b":")
 }

@@ -7,9 +7,11 @@ mod lines;
 mod nets;
 mod refusals;
 
-fn main() {
-    nets::print_all();
-    drafts::print_all();
-    refusals::print_all();
-    nets::largest();
+use std::io;
+
+fn main(rt: HostRuntime) -> io::Result<()> {
+    nets::print_all(rt)?;
+    drafts::print_all(rt)?;
+    refusals::print_all(rt)?;
+    nets::largest(rt)
 }

@@ -10,10 +10,12 @@ mod operators;
 mod refusals;
 mod rooms;
 
-fn main() {
-    operators::print_all();
-    choices::print_all();
-    rooms::print_all();
-    refusals::print_all();
-    large::print_all();
+use std::io;
+
+fn main(rt: HostRuntime) -> io::Result<()> {
+    operators::print_all(rt)?;
+    choices::print_all(rt)?;
+    rooms::print_all(rt)?;
+    refusals::print_all(rt)?;
+    large::print_all(rt)
 }

@@ -5,23 +5,23 @@ use files::Got;
 use line::Input;
 
 // Reads the file that an argument names, or the one of a fixed name in the working folder.
-fn read_one(named: bool, i: usize, name: &[u8], buf: &mut [u8]) -> Got
+fn read_one(rt: HostRuntime, named: bool, i: usize, name: &[u8], buf: &mut [u8]) -> Got
     ensures { FileRead buf.new result }
 {
     if named {
-        return files::read_argument(i, buf);
+        return files::read_argument(&rt, i, buf);
     }
-    files::read_path(name, buf)
+    files::read_path(&rt, name, buf)
 }
 
 // Reads one of the four files.
-pub fn read_input(file: Input, named: bool, buf: &mut [u8]) -> Got
+pub fn read_input(rt: HostRuntime, file: Input, named: bool, buf: &mut [u8]) -> Got
     ensures { FileRead buf.new result }
 {
     match file {
-        Input::Ask => read_one(named, 1, b"ASK", buf),
-        Input::Net => read_one(named, 2, b"NET", buf),
-        Input::Formula => read_one(named, 3, b"FORMULA", buf),
-        Input::Tree => read_one(named, 4, b"TREE", buf),
+        Input::Ask => read_one(rt, named, 1, b"ASK", buf),
+        Input::Net => read_one(rt, named, 2, b"NET", buf),
+        Input::Formula => read_one(rt, named, 3, b"FORMULA", buf),
+        Input::Tree => read_one(rt, named, 4, b"TREE", buf),
     }
 }

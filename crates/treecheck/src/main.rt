@@ -6,62 +6,60 @@
 mod inputs;
 
 use files::Got;
-use libc::{STDERR_FILENO, STDOUT_FILENO};
 use line::Input;
-
-// Writes a text to standard output, or tells that it cannot.
-fn tell(text: &[u8]) {
-    if !io::write_all(STDOUT_FILENO, text) {
-        os::fail(b"write");
-    }
-}
+use std::io;
 
 // Tells that a file is not read.
-fn tell_unread(file: Input) {
+fn tell_unread(rt: HostRuntime, file: Input) -> io::Result<()> {
     let mut text = [0u8; 40];
     let size = line::unread_line(file, &mut text);
-    tell(&text[..size]);
+    rt.write_all(&text[..size])
 }
 
 // Tells what the check says of the four tables.
-fn tell_check(ask: &[u8], net: &[u8], formulas: &[u8], tree: &[u8]) {
+fn tell_check(
+    rt: HostRuntime,
+    ask: &[u8],
+    net: &[u8],
+    formulas: &[u8],
+    tree: &[u8],
+) -> io::Result<()> {
     let mut text = [0u8; 40];
     let size = line::check_line(ask, net, formulas, tree, &mut text);
-    tell(&text[..size]);
+    rt.write_all(&text[..size])
 }
 
 // Reads all four files, and then checks.
-fn run(named: bool) {
+fn run(rt: HostRuntime, named: bool) -> io::Result<()> {
     let mut ask = files::room();
-    let Got::Whole(a) = inputs::read_input(Input::Ask, named, &mut ask) else {
-        tell_unread(Input::Ask);
-        return;
+    let Got::Whole(a) = inputs::read_input(rt, Input::Ask, named, &mut ask) else {
+        return tell_unread(rt, Input::Ask);
     };
     let mut net = files::room();
-    let Got::Whole(n) = inputs::read_input(Input::Net, named, &mut net) else {
-        tell_unread(Input::Net);
-        return;
+    let Got::Whole(n) = inputs::read_input(rt, Input::Net, named, &mut net) else {
+        return tell_unread(rt, Input::Net);
     };
     let mut formulas = files::room();
-    let Got::Whole(f) = inputs::read_input(Input::Formula, named, &mut formulas) else {
-        tell_unread(Input::Formula);
-        return;
+    let Got::Whole(f) = inputs::read_input(rt, Input::Formula, named, &mut formulas) else {
+        return tell_unread(rt, Input::Formula);
     };
     let mut tree = files::room();
-    let Got::Whole(t) = inputs::read_input(Input::Tree, named, &mut tree) else {
-        tell_unread(Input::Tree);
-        return;
+    let Got::Whole(t) = inputs::read_input(rt, Input::Tree, named, &mut tree) else {
+        return tell_unread(rt, Input::Tree);
     };
-    tell_check(&ask[..a], &net[..n], &formulas[..f], &tree[..t]);
+    tell_check(rt, &ask[..a], &net[..n], &formulas[..f], &tree[..t])
 }
 
-fn main() {
-    let words = os::arg_count();
+fn main(rt: HostRuntime) -> io::Result<()> {
+    let words = files::argument_count(&rt);
     if words == 1 {
-        run(false);
+        run(rt, false)
     } else if words == 5 {
-        run(true);
+        run(rt, true)
     } else {
-        io::write_all(STDERR_FILENO, b"usage: treecheck [ASK NET FORMULA TREE]\n");
+        let _ = rt
+            .stderr()
+            .write_all(b"usage: treecheck [ASK NET FORMULA TREE]\n");
+        Ok(())
     }
 }

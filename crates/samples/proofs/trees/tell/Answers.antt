@@ -1,9 +1,0 @@
--- `samples::trees::tell` is safe and ends: the line fits the buffer. Assumes nothing.
-use mathlib.Core.Path.{refl, sym}
-use lib.Seq.{length-take-le}
-use Rattle.texts.proofs.Line.{whole}
-use Rattle.samples.proofs.trees.tell.Goals as goal
-
-pub slice_bounds-text-end : goal.slice_bounds-text-end
-slice_bounds-text-end c = (whole refl c.check_line-size.ensures).0
-
