@@ -29,39 +29,37 @@ pub returns-then-not-new_ask-count : goal.returns-then-not-new_ask-count
 returns-then-not-new_ask-count c =
     refused_short
     (record { ready = c.requires; asked = c.ask_of-a.ensures; marked = c.reached-marks.ensures; numbered = c.numbers_of-numbers.ensures })
-    (tables c.args.new-ask.now c.args.new-formulas.now c.args.new-tree.now)
+    (tables c.args.new_ask.now c.args.new_formulas.now c.args.new_tree.now)
     c.if-not-new_ask-count.true-raw
 
 pub put_ask-requires : goal.put_ask-requires
 put_ask-requires c =
     ask-room
     (record { ready = c.requires; asked = c.ask_of-a.ensures; marked = c.reached-marks.ensures; numbered = c.numbers_of-numbers.ensures })
-    (tables c.args.new-ask.now c.args.new-formulas.now c.args.new-tree.now)
+    (tables c.args.new_ask.now c.args.new_formulas.now c.args.new_tree.now)
     c.if-not-new_ask-count.false-raw
 
 pub put_formulas-requires : goal.put_formulas-requires
-put_formulas-requires c =
-    (
-      c.requires.formulas_good,
-      formulas-room
-          (record { ready = c.requires; asked = c.ask_of-a.ensures; marked = c.reached-marks.ensures; numbered = c.numbers_of-numbers.ensures })
-          (tables c.args.new-ask.now c.args.new-formulas.now c.args.new-tree.now)
-          c.if-not-new_ask-count.false-raw,
-    )
+put_formulas-requires c = (
+  c.requires.formulas_good,
+  formulas-room
+      (record { ready = c.requires; asked = c.ask_of-a.ensures; marked = c.reached-marks.ensures; numbered = c.numbers_of-numbers.ensures })
+      (tables c.args.new_ask.now c.args.new_formulas.now c.args.new_tree.now)
+      c.if-not-new_ask-count.false-raw,
+)
 
 pub put_nodes-requires : goal.put_nodes-requires
-put_nodes-requires c =
-    (
-      c.requires.nodes_good,
-      nodes-room
-          (record { ready = c.requires; asked = c.ask_of-a.ensures; marked = c.reached-marks.ensures; numbered = c.numbers_of-numbers.ensures })
-          (tables c.args.new-ask.now c.args.new-formulas.now c.args.new-tree.now)
-          c.if-not-new_ask-count.false-raw,
-    )
+put_nodes-requires c = (
+  c.requires.nodes_good,
+  nodes-room
+      (record { ready = c.requires; asked = c.ask_of-a.ensures; marked = c.reached-marks.ensures; numbered = c.numbers_of-numbers.ensures })
+      (tables c.args.new_ask.now c.args.new_formulas.now c.args.new_tree.now)
+      c.if-not-new_ask-count.false-raw,
+)
 
 pub returns : goal.returns
 returns c =
     writes
     (record { ready = c.requires; asked = c.ask_of-a.ensures; marked = c.reached-marks.ensures; numbered = c.numbers_of-numbers.ensures })
-    (tables c.args.new-ask.now c.args.new-formulas.now c.args.new-tree.now)
+    (tables c.args.new_ask.now c.args.new_formulas.now c.args.new_tree.now)
     c.if-not-new_ask-count.false-raw c.ask_with.ensures c.put_ask.ensures c.put_formulas.ensures c.put_nodes.ensures

@@ -21,12 +21,11 @@ overflow_add-n c =
     search rules
 
 pub loop-i-preserved : goal.loop-i-preserved
-loop-i-preserved c =
-    (
-      omega arith,
-      counted_next _ c.loop-i.i c.loop-i.invariant.1 c.counted-n.ensures,
-      grow (count_below (is_marked _)) c.loop-i.i 256 _ _ c.loop-i-test.true c.loop-i.invariant.2 c.loop-i.invariant.1,
-    )
+loop-i-preserved c = (
+  omega arith,
+  counted_next _ c.loop-i.i c.loop-i.invariant.1 c.counted-n.ensures,
+  grow (count_below (is_marked _)) c.loop-i.i 256 _ _ c.loop-i-test.true c.loop-i.invariant.2 c.loop-i.invariant.1,
+)
 
 pub returns : goal.returns
 returns c = filled (count_below (is_marked _)) 256 c.loop-i.i c.loop-i.invariant.2 c.loop-i.invariant.0 c.loop-i-test.false

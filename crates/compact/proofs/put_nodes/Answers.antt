@@ -18,7 +18,10 @@ bounds-numbers-s c =
     formula_few _ c.loop-k.k c.loop-k-test.true c.node_at-n.ensures c.requires.0
 
 pub offset_bounds-numbers-s : goal.offset_bounds-numbers-s
-offset_bounds-numbers-s c = let h = element-copy-out-formula c in search rules
+unfolding nodes
+offset_bounds-numbers-s c =
+    let h = formula_few _ c.loop-k.k c.loop-k-test.true c.node_at-n.ensures c.requires.0 in
+    search rules
 
 pub put_node-requires : goal.put_node-requires
 unfolding nodes

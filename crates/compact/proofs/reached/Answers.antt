@@ -11,7 +11,7 @@ pub bounds-marks-f : goal.bounds-marks-f
 bounds-marks-f c = few _ c.requires.0 c.args.f c.requires.1
 
 pub loop-n-init : goal.loop-n-init
-loop-n-init c = (zero-le, pass_start _ _ (array-write-marks c))
+loop-n-init c = (zero-le, pass_start _ _ (few _ c.requires.0 c.args.f c.requires.1))
 
 pub slice_bounds-mark_operands-end : goal.slice_bounds-mark_operands-end
 slice_bounds-mark_operands-end c = sym (pass_length _ _ _ c.loop-n.invariant.1)

@@ -7,7 +7,7 @@ use Rattle.desk.proofs.desk_check.Goals as goal
 pub returns : goal.returns
 returns c = let e = c.check.ensures.0 in
     let n = c.verdict_numbers-outcome.ensures in
-    let number = n.0 ∙ ap (λ (o : Outcome). o.number) e in (
-      (number, n.1 ∙ ap (λ (o : Outcome). o.place) e),
-      λ z. c.check.ensures.1 (ap (λ (o : Outcome). o.word) e ∙ accepted _ _ _ _ (sym number ∙ z)),
-    )
+    let number = n.0 ∙ ap (λ (o : Outcome). o.number) e in record {
+      answer = (number, n.1 ∙ ap (λ (o : Outcome). o.place) e);
+      claim = λ z. c.check.ensures.1 (ap (λ (o : Outcome). o.word) e ∙ accepted _ _ _ _ (sym number ∙ z));
+    }

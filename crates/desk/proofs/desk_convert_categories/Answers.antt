@@ -11,12 +11,12 @@ unfolding answer_of
 returns c =
     let e = c.convert.ensures in
     let n = c.convert_numbers-said.ensures in
-    let number = n.0 ∙ ap (λ (a : Answer). a.found.number) e in (
-      (
+    let number = n.0 ∙ ap (λ (a : Answer). a.found.number) e in record {
+      answer = (
         number,
         n.1 ∙ ap (λ (a : Answer). a.found.place) e,
         n.2 ∙ ap (λ (a : Answer). a.rewritten) e,
         ap (λ (a : Answer). a.room) e,
-      ),
-      λ z. converts _ (granted_valid _ _ (sym number ∙ z)),
-    )
+      );
+      worth = λ z. converts _ (granted_valid _ _ (sym number ∙ z));
+    }

@@ -11,14 +11,14 @@ unfolding answer_of
 returns c =
     let e = c.join.ensures in
     let n = c.join_numbers-joined.ensures in
-    let number = ap (λ (x : Numbers). x.number) n ∙ ap (λ (a : Answer). a.found.number) e in (
-      (
+    let number = ap (λ (x : Numbers). x.number) n ∙ ap (λ (a : Answer). a.found.number) e in record {
+      answer = (
         number,
         ap (λ (x : Numbers). x.place) n ∙ ap (λ (a : Answer). a.found.place) e,
         ap (λ (x : Numbers). x.places) n ∙ ap (λ (a : Answer). a.places) e,
         ap (λ (x : Numbers). x.marking) n ∙ ap (λ (a : Answer). a.marking) e,
         ap (λ (x : Numbers). x.length) n ∙ ap (λ (a : Answer). a.length) e,
         ap (λ (a : Answer). a.room) e,
-      ),
-      λ z. worth _ _ _ (sym number ∙ z),
-    )
+      );
+      worth = λ z. worth _ _ _ (sym number ∙ z);
+    }

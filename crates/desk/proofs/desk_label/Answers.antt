@@ -6,5 +6,8 @@ use Rattle.desk.proofs.desk_label.Goals as goal
 
 pub returns : goal.returns
 unfolding bytes_at
-returns c = let e = c.place-place.ensures.0 in
-    ((ap (λ (p : LabelPlace). p.file) e, ap (λ (p : LabelPlace). p.offset) e, ap (λ (p : LabelPlace). p.length) e), c.place-place.ensures.1)
+returns c = let e = c.place-place.ensures.place in
+    record {
+      place = (ap (λ (p : LabelPlace). p.file) e, ap (λ (p : LabelPlace). p.offset) e, ap (λ (p : LabelPlace). p.length) e);
+      bytes = c.place-place.ensures.bytes;
+    }

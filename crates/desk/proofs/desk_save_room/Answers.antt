@@ -10,12 +10,12 @@ unfolding answer_of
 returns c =
     let e = c.compact.ensures in
     let n = c.compact_numbers-said.ensures in
-    let number = ap (λ (x : Numbers). x.number) n in (
-      (
-        number ∙ ap (λ (a : Answer). a.found.number) e.0,
-        ap (λ (x : Numbers). x.place) n ∙ ap (λ (a : Answer). a.found.place) e.0,
-        ap (λ (x : Numbers). x.count) n ∙ ap (λ (a : Answer). a.count) e.0,
-        ap (λ (a : Answer). a.rooms) e.0,
-      ),
-      λ z. e.1 (sym number ∙ z),
-    )
+    let number = ap (λ (x : Numbers). x.number) n in record {
+      answer = (
+        number ∙ ap (λ (a : Answer). a.found.number) e.answer,
+        ap (λ (x : Numbers). x.place) n ∙ ap (λ (a : Answer). a.found.place) e.answer,
+        ap (λ (x : Numbers). x.count) n ∙ ap (λ (a : Answer). a.count) e.answer,
+        ap (λ (a : Answer). a.rooms) e.answer,
+      );
+      worth = λ z. e.worth (sym number ∙ z);
+    }

@@ -9,13 +9,13 @@ pub returns : goal.returns
 unfolding WrittenIsAccepted
 returns c =
     let e = c.write.ensures.0 in
-    let n = c.write_numbers-told.ensures in (
-      (
+    let n = c.write_numbers-told.ensures in record {
+      answer = (
         n.0 ∙ ap (λ (a : Answer). a.found.number) e,
         n.1 ∙ ap (λ (a : Answer). a.found.place) e,
         n.2 ∙ ap (λ (a : Answer). a.side) e,
         n.3 ∙ ap (λ (a : Answer). a.nodes) e,
         ap (λ (a : Answer). a.room) e,
-      ),
-      written_is_accepted _ _ _ _,
-    )
+      );
+      worth = written_is_accepted _ _ _ _;
+    }

@@ -16,8 +16,7 @@ returns-in-Refused-check_load c =
 
 pub join_loaded-requires : goal.join_loaded-requires
 unfolding checked
-join_loaded-requires c =
-    (
-      sym (ap checked (sym c.in_default.is) ∙ c.check_load.ensures),
-      sym (ap checked (sym c.in_default-check_load.is) ∙ c.check_load-2.ensures),
-    )
+join_loaded-requires c = (
+  sym (ap checked (sym c.in_default.is) ∙ c.check_load.ensures),
+  sym (ap checked (sym c.in_default-check_load.is) ∙ c.check_load-2.ensures),
+)

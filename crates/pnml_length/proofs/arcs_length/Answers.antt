@@ -15,12 +15,11 @@ loop-t-init c = (zero-le, no_arcs _ _)
 
 pub loop-t-preserved : goal.loop-t-preserved
 unfolding pre_at post_at
-loop-t-preserved c =
-    (
-      omega (arith, c.loop-t-test.true),
-      recast_arcs (omega arith) (table_more _ _ _ _ _ c.u64_at-pre.ensures c.u64_at-post.ensures)
-          (join_arcs c.loop-t.invariant.1 (join_arcs c.arcs_by-half.ensures c.arcs_by-sum.ensures)),
-    )
+loop-t-preserved c = (
+  omega (arith, c.loop-t-test.true),
+  recast_arcs (omega arith) (table_more _ _ _ _ _ c.u64_at-pre.ensures c.u64_at-post.ensures)
+      (join_arcs c.loop-t.invariant.1 (join_arcs c.arcs_by-half.ensures c.arcs_by-sum.ensures)),
+)
 
 pub returns : goal.returns
 returns c =

@@ -13,24 +13,24 @@ put_word-at-requires-2 c = omega (arith, c.put_word-at.ensures.next, c.put_numbe
 
 pub put_number-at-requires-2 : goal.put_number-at-requires-2
 put_number-at-requires-2 c = omega (
-      arith,
-      c.put_word-at.ensures.next,
-      c.put_number-at.ensures.next,
-      c.put_word-at-2.ensures.next,
-      decimal_length 1 c.args.places (omega (arith, c.requires)),
-      word_length c.args.marking c.ranges.marking.fits,
-    )
+  arith,
+  c.put_word-at.ensures.next,
+  c.put_number-at.ensures.next,
+  c.put_word-at-2.ensures.next,
+  decimal_length 1 c.args.places (omega (arith, c.requires)),
+  word_length c.args.marking c.ranges.marking.fits,
+)
 
 pub put_word-requires : goal.put_word-requires
 put_word-requires c = omega (
-      arith,
-      c.put_word-at.ensures.next,
-      c.put_number-at.ensures.next,
-      c.put_word-at-2.ensures.next,
-      c.put_number-at-2.ensures.next,
-      decimal_length 1 c.args.places (omega (arith, c.requires)),
-      word_length c.args.marking c.ranges.marking.fits,
-    )
+  arith,
+  c.put_word-at.ensures.next,
+  c.put_number-at.ensures.next,
+  c.put_word-at-2.ensures.next,
+  c.put_number-at-2.ensures.next,
+  decimal_length 1 c.args.places (omega (arith, c.requires)),
+  word_length c.args.marking c.ranges.marking.fits,
+)
 
 pub returns : goal.returns
 unfolding found_line

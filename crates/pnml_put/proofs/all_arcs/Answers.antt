@@ -15,12 +15,11 @@ loop-t-init c = (zero-le, no_arcs _ _ _ c.requires.0)
 
 pub loop-t-preserved : goal.loop-t-preserved
 unfolding pre_at post_at
-loop-t-preserved c =
-    (
-      omega (arith, c.loop-t-test.true),
-      recast_arcs (omega arith) (table_more _ _ _ _ _ c.u64_at-pre.ensures c.u64_at-post.ensures)
-          (join_arcs c.loop-t.invariant.1 c.arcs_at-spot.ensures),
-    )
+loop-t-preserved c = (
+  omega (arith, c.loop-t-test.true),
+  recast_arcs (omega arith) (table_more _ _ _ _ _ c.u64_at-pre.ensures c.u64_at-post.ensures)
+      (join_arcs c.loop-t.invariant.1 c.arcs_at-spot.ensures),
+)
 
 pub shape_of-room : goal.shape_of-room
 shape_of-room c = c.loop-t.invariant.1.text.kept

@@ -15,12 +15,11 @@ unfolding countdown drawing.places drawing.joined
 loop-i-init c = (zero-le, fit_none _ _ c.requires.0)
 
 pub loop-i-preserved : goal.loop-i-preserved
-loop-i-preserved c =
-    (
-      omega (arith, c.loop-i-test.true),
-      fit_recast (omega arith) (places_more (mark_of c.args.marking) _ _ c.mark.ensures.0)
-          (fit_join c.loop-i.invariant.1 c.place-next.ensures),
-    )
+loop-i-preserved c = (
+  omega (arith, c.loop-i-test.true),
+  fit_recast (omega arith) (places_more (mark_of c.args.marking) _ _ c.mark.ensures.0)
+      (fit_join c.loop-i.invariant.1 c.place-next.ensures),
+)
 
 pub shape_of-room : goal.shape_of-room
 shape_of-room c = c.loop-i.invariant.1.kept

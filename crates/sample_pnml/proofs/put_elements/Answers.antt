@@ -16,7 +16,7 @@ put_element-next-requires c = let l = elements_length c.args.opening.now c.args.
 pub loop-i-preserved : goal.loop-i-preserved
 loop-i-preserved c = let l = c.loop-i in
     let put = c.put_element-next in
-    (search rules, put.auto.0 ∙ l.invariant.1, more_elements _ _ _ l.invariant.2 put.ensures)
+    (search rules, put.auto.room ∙ l.invariant.1, more_elements _ _ _ l.invariant.2 put.ensures)
 
 pub shape_of-room : goal.shape_of-room
 shape_of-room c = c.loop-i.invariant.1

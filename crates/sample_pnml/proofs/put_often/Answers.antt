@@ -16,7 +16,7 @@ put_part-at-requires c = let l = c.loop-i in
 pub loop-i-preserved : goal.loop-i-preserved
 loop-i-preserved c = let l = c.loop-i in
     let put = c.put_part-at in
-    (search rules, put.auto.0 ∙ l.invariant.1, more_often _ _ l.invariant.2 put.ensures)
+    (search rules, put.auto.room ∙ l.invariant.1, more_often _ _ l.invariant.2 put.ensures)
 
 pub shape_of-table : goal.shape_of-table
 shape_of-table c = c.loop-i.invariant.1

@@ -16,7 +16,7 @@ put_byte-at-requires c = let l = c.loop-i in
 pub loop-i-preserved : goal.loop-i-preserved
 loop-i-preserved c = let l = c.loop-i in
     let put = c.put_byte-at in
-    (search rules, put.auto.0 ∙ l.invariant.1, more_spaced _ _ _ l.invariant.2 c.tag_ends.ensures put.ensures)
+    (search rules, put.auto.room ∙ l.invariant.1, more_spaced _ _ _ l.invariant.2 c.tag_ends.ensures put.ensures)
 
 pub shape_of-room : goal.shape_of-room
 shape_of-room c = c.loop-i.invariant.1

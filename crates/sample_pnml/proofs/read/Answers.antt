@@ -3,4 +3,4 @@ use Rattle.sample_pnml.proofs.Answers.{read_told}
 use Rattle.sample_pnml.proofs.read.Goals as goal
 
 pub returns : goal.returns
-returns c = read_told _ _ _ _ c.read.ensures.0 c.read_numbers.ensures
+returns c = read_told _ _ _ _ c.read.ensures.answer c.read_numbers.ensures

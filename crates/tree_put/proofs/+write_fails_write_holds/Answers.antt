@@ -1,7 +1,7 @@
 -- The proof of the cycle of calls {write_fails, write_holds}. The operands are lower: the measure of both is the record's number.
 -- Assumes nothing.
 use mathlib.Core.Path.{◌≡◌, refl, sym, ◌∙◌}
-use Prim.Native.Nat.{◌-◌}
+use Prim.Native.Nat.{ℕ, ◌<◌, ◌-◌}
 use native.Mathlib.Omega.{arith}
 use borrow.Author.Tests.{not-true, not-false}
 use Rattle.net.specs.Table.{transitions}
@@ -68,10 +68,9 @@ write_holds-overflow_add-free-then-operator-eq2-2 t c = record { fits = omega (a
 
 pub write_holds-write_holds-requires : goal.write_holds-write_holds-requires
 write_holds-write_holds-requires t c =
-    let two = holds_2 c.requires c.formula_at-record.ensures c.if-operator-eq2.true in
-    (
-    lower-falls two.right.lower c.decreases,
-    second_writing c.requires two c.write_holds-next.auto.memo c.write_holds-next.ensures.2 (c.write_holds-next.auto.room ∙ c.put-then-operator-eq2.auto.room) _ c.write_holds-next.ensures.1,
+    let two = holds_2 c.requires c.formula_at-record.ensures c.if-operator-eq2.true in (
+      lower-falls two.right.lower c.decreases,
+      second_writing c.requires two c.write_holds-next.auto.memo c.write_holds-next.ensures.2 (c.write_holds-next.auto.room ∙ c.put-then-operator-eq2.auto.room) _ c.write_holds-next.ensures.1,
     )
 
 pub write_holds-shape_of-memo-then-operator-eq2 : goal.write_holds-shape_of-memo-then-operator-eq2
@@ -194,8 +193,8 @@ unfolding transitions
 write_fails-write_fails-next-requires t c =
     let op = fails_3 c.requires c.formula_at-record.ensures c.if-operator-eq1.false c.if-operator-eq2.false in
     let o = offered_as _ _ _ _ c.formula_at-record.ensures _ c.offered.ensures (not-false _ c.if-not-offered.false-raw) in (
-    lower-falls (fails_lower c.requires c.formula_at-record.ensures op) c.decreases,
-    turn_writing c.loop-t.invariant c.loop-t-test.true c.requires op refl c.put-2.auto.room o (left_read _ _ c.formula_at-record.ensures) c.after-after.ensures,
+      lower-falls (fails_lower c.requires c.formula_at-record.ensures op) c.decreases,
+      turn_writing c.loop-t.invariant c.loop-t-test.true c.requires op refl c.put-2.auto.room o (left_read _ _ c.formula_at-record.ensures) c.after-after.ensures,
     )
 
 pub write_fails-overflow_add-child : goal.write_fails-overflow_add-child

@@ -33,11 +33,10 @@ evaluate-returns-then-op-eq0 t c =
     c.over.ensures.0 c.over.ensures.1
 
 pub evaluate-evaluate_steps-requires : goal.evaluate-evaluate_steps-requires
-evaluate-evaluate_steps-requires t c =
-    (
-    subst (λ (j : ℕ). 3 * c.args.f < j) c.decreases (omega arith),
-    (c.requires, sym (operator_read _ _ c.formula_at-r.ensures) ∙ c.if-op-eq3.true),
-    )
+evaluate-evaluate_steps-requires t c = (
+  subst (λ (j : ℕ). 3 * c.args.f < j) c.decreases (omega arith),
+  (c.requires, sym (operator_read _ _ c.formula_at-r.ensures) ∙ c.if-op-eq3.true),
+)
 
 pub evaluate-shape_of-memo-then-op-eq3 : goal.evaluate-shape_of-memo-then-op-eq3
 evaluate-shape_of-memo-then-op-eq3 t c = c.evaluate_steps.auto.memo
@@ -46,11 +45,10 @@ pub evaluate-returns-then-op-eq3 : goal.evaluate-returns-then-op-eq3
 evaluate-returns-then-op-eq3 t c = c.evaluate_steps.ensures
 
 pub evaluate-measure-left-requires : goal.evaluate-measure-left-requires
-evaluate-measure-left-requires t c =
-    (
-    left-falls (left_below _ _ c.formula_at-r.ensures c.requires.lower c.requires.inside c.if-op-eq0.false) c.decreases,
-    ready_left c.requires _ refl c.requires.sound c.formula_at-r.ensures c.if-op-eq0.false,
-    )
+evaluate-measure-left-requires t c = (
+  left-falls (left_below _ _ c.formula_at-r.ensures c.requires.lower c.requires.inside c.if-op-eq0.false) c.decreases,
+  ready_left c.requires _ refl c.requires.sound c.formula_at-r.ensures c.if-op-eq0.false,
+)
 
 pub evaluate-over-requires-then-op-eq1 : goal.evaluate-over-requires-then-op-eq1
 evaluate-over-requires-then-op-eq1 t c = capped_most _ c.measure-left.ensures.1
@@ -77,8 +75,8 @@ evaluate-returns-then-not-left t c =
 pub evaluate-measure-right-requires : goal.evaluate-measure-right-requires
 evaluate-measure-right-requires t c =
     let a = is_and _ _ c.formula_at-r.ensures c.requires.lower c.requires.inside c.requires.until-free c.if-op-eq0.false c.if-op-eq3.false c.if-op-eq1.false in (
-    left-falls (right_below _ _ c.formula_at-r.ensures c.requires.lower c.requires.inside a) c.decreases,
-    ready_right c.requires _ c.measure-left.auto.memo c.measure-left.ensures.2 c.formula_at-r.ensures a,
+      left-falls (right_below _ _ c.formula_at-r.ensures c.requires.lower c.requires.inside a) c.decreases,
+      ready_right c.requires _ c.measure-left.auto.memo c.measure-left.ensures.2 c.formula_at-r.ensures a,
     )
 
 pub evaluate-both-requires : goal.evaluate-both-requires
@@ -103,13 +101,12 @@ unfolding transitions
 evaluate_steps-offered-requires t c = (c.requires.0.sized, c.loop-t-test.true)
 
 pub evaluate_steps-loop-t-preserved-then-not-offered : goal.evaluate_steps-loop-t-preserved-then-not-offered
-evaluate_steps-loop-t-preserved-then-not-offered t c =
-    (
-    omega arith,
-    c.loop-t.invariant.1,
-    stepped_skip _ _ _ _ c.loop-t.invariant.2
-    (offered_as _ _ _ _ c.formula_at-r.ensures _ c.offered.ensures (not-true _ c.if-not-offered.true-raw)),
-    )
+evaluate_steps-loop-t-preserved-then-not-offered t c = (
+  omega arith,
+  c.loop-t.invariant.1,
+  stepped_skip _ _ _ _ c.loop-t.invariant.2
+      (offered_as _ _ _ _ c.formula_at-r.ensures _ c.offered.ensures (not-true _ c.if-not-offered.true-raw)),
+)
 
 pub evaluate_steps-after-requires : goal.evaluate_steps-after-requires
 unfolding transitions
@@ -118,8 +115,8 @@ evaluate_steps-after-requires t c = (c.requires.0.sized, c.loop-t-test.true)
 pub evaluate_steps-measure-next-requires : goal.evaluate_steps-measure-next-requires
 evaluate_steps-measure-next-requires t c =
     let d = is_step _ _ c.formula_at-r.ensures c.requires.1 in (
-    step_falls (left_below _ _ c.formula_at-r.ensures c.requires.0.lower c.requires.0.inside d) c.decreases,
-    ready_left c.requires.0 _ c.loop-t.invariant.1 c.loop-t.invariant.2.sound c.formula_at-r.ensures d,
+      step_falls (left_below _ _ c.formula_at-r.ensures c.requires.0.lower c.requires.0.inside d) c.decreases,
+      ready_left c.requires.0 _ c.loop-t.invariant.1 c.loop-t.invariant.2.sound c.formula_at-r.ensures d,
     )
 
 pub evaluate_steps-over-requires : goal.evaluate_steps-over-requires
@@ -141,15 +138,14 @@ pub evaluate_steps-plus-size-requires : goal.evaluate_steps-plus-size-requires
 evaluate_steps-plus-size-requires t c = (capped_most _ c.loop-t.invariant.2.counted, capped_most _ c.measure-next.ensures.1)
 
 pub evaluate_steps-loop-t-preserved : goal.evaluate_steps-loop-t-preserved
-evaluate_steps-loop-t-preserved t c =
-    (
-    omega arith,
-    c.measure-next.auto.memo ∙ c.loop-t.invariant.1,
-    stepped_next _ _ _ _ _ c.loop-t.invariant.2
-    (offered_as _ _ _ _ c.formula_at-r.ensures _ c.offered.ensures (not-false _ c.if-not-offered.false-raw))
-    (found_as _ _ _ _ c.formula_at-r.ensures _ _ c.after.ensures c.measure-next.ensures)
-    c.if-next.false c.plus-size.ensures,
-    )
+evaluate_steps-loop-t-preserved t c = (
+  omega arith,
+  c.measure-next.auto.memo ∙ c.loop-t.invariant.1,
+  stepped_next _ _ _ _ _ c.loop-t.invariant.2
+      (offered_as _ _ _ _ c.formula_at-r.ensures _ c.offered.ensures (not-false _ c.if-not-offered.false-raw))
+      (found_as _ _ _ _ c.formula_at-r.ensures _ _ c.after.ensures c.measure-next.ensures)
+      c.if-next.false c.plus-size.ensures,
+)
 
 pub evaluate_steps-shape_of-memo : goal.evaluate_steps-shape_of-memo
 evaluate_steps-shape_of-memo t c = c.loop-t.invariant.1
@@ -185,10 +181,9 @@ measure-bounds-memo-i-4 t c =
     lt-length-set c.evaluate-found.new.memo c.find-i.result c.args.m h
 
 pub measure-returns : goal.measure-returns
-measure-returns t c =
-    (
-    c.evaluate-found.ensures.0,
-    c.evaluate-found.ensures.1,
-    sound_store _ _ _ _ _ _ c.find-i.ensures.0 c.find-i.ensures.1 c.evaluate-found.ensures.2 (c.evaluate-found.auto.memo ∙ c.requires.room)
-    c.evaluate-found.ensures.0 c.evaluate-found.ensures.1 c.packed-number.ensures,
-    )
+measure-returns t c = (
+  c.evaluate-found.ensures.0,
+  c.evaluate-found.ensures.1,
+  sound_store _ _ _ _ _ _ c.find-i.ensures.0 c.find-i.ensures.1 c.evaluate-found.ensures.2 (c.evaluate-found.auto.memo ∙ c.requires.room)
+      c.evaluate-found.ensures.0 c.evaluate-found.ensures.1 c.packed-number.ensures,
+)
