@@ -11,7 +11,7 @@ loop-f-init c = (omega arith, refl, no_and _)
 pub loop-f-preserved : goal.loop-f-preserved
 loop-f-preserved c = let l = c.loop-f in
     let put = c.put_formula in
-    (omega arith, put.auto.room ∙ l.invariant.1, more_ands _ _ l.invariant.2 put.ensures)
+    (omega arith, put.auto.table ∙ l.invariant.1, more_ands _ _ l.invariant.2 put.ensures)
 
 pub shape_of-table : goal.shape_of-table
 shape_of-table c = c.loop-f.invariant.1
