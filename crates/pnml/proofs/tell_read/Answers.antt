@@ -15,5 +15,5 @@ read_line-size-requires c = (found_bounded _ _ _ c.read-r.ensures.answer).0
 pub slice_bounds-line-end : goal.slice_bounds-line-end
 slice_bounds-line-end c = (whole refl c.read_line-size.ensures).0
 
-pub slice_bounds-write_all-end : goal.slice_bounds-tell-end
+pub slice_bounds-write_all-end : goal.slice_bounds-write_all-end
 slice_bounds-write_all-end c = sym (length-take-le _ _ (whole refl c.read_line-size.ensures).0)

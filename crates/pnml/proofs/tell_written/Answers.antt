@@ -7,5 +7,5 @@ use Rattle.pnml.proofs.tell_written.Goals as goal
 pub slice_bounds-room-end : goal.slice_bounds-room-end
 slice_bounds-room-end c = written_inside _ _ _ _ c.write_ask-w.ensures c.in-Length.is
 
-pub slice_bounds-write_all-end : goal.slice_bounds-tell-end
+pub slice_bounds-write_all-end : goal.slice_bounds-write_all-end
 slice_bounds-write_all-end c = sym (length-take-le _ _ (written_inside _ _ _ _ c.write_ask-w.ensures c.in-Length.is))
