@@ -1,0 +1,8 @@
+-- `samples_written::calls::check` is safe and ends: the line fits the buffer. Assumes nothing.
+use mathlib.Core.Path.{refl, sym}
+use lib.Seq.{length-take-le}
+use Rattle.texts.proofs.Line.{whole}
+use Rattle.samples_written.proofs.calls.check.Goals as goal
+
+pub slice_bounds-text-end : goal.slice_bounds-text-end
+slice_bounds-text-end c = (whole refl c.write_line-size.ensures).0
