@@ -5,7 +5,7 @@ use lib.ListN.{length}
 use Rattle.samples_converted.proofs.large.borrow_last.Given as goal
 
 abbrev pub invariant-loop-i : goal.invariant-loop-i
-invariant-loop-i l = (i ≤ 1999) × (length l.i ≡ length l.initial.file)
+invariant-loop-i l = (l.i ≤ 1999) × (length l.file ≡ length l.initial.file)
 
 abbrev pub decreases-loop-i : goal.decreases-loop-i
-decreases-loop-i l = 1999 - i
+decreases-loop-i l = 1999 - l.i
