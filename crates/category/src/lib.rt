@@ -20,7 +20,7 @@ pub const TEXT_START: usize = 8;
 pub const TEXT_ROOM: usize = 24;
 
 // The answer of a check. `checked` of specs/ has document 01's numbers.
-#[derive(Drop)]
+#[derive(Clone, Copy)]
 pub enum Checked {
     Good,
     Size,
@@ -28,14 +28,14 @@ pub enum Checked {
 }
 
 // An answer in document 01's numbers: 0 where the files are good, 9, or 10 with the record.
-#[derive(Drop)]
+#[derive(Clone, Copy)]
 pub struct Numbers {
     pub number: u32,
     pub place: u64,
 }
 
 // Where a label stands: file 0 is the translation and 1 the house file; all zero for no label.
-#[derive(Drop)]
+#[derive(Clone, Copy)]
 pub struct LabelPlace {
     pub file: u32,
     pub offset: u32,

@@ -17,7 +17,7 @@ use tables::RecordCount;
 
 // The answer: how many records were rewritten, or why the file was not converted. `found_of` of specs/ has the documents' numbers: a length
 // that is not 0 to 2,000 records (9), a record that is faulty by document 01 (10), a room that is shorter than the file (12).
-#[derive(Drop)]
+#[derive(Clone, Copy)]
 pub enum Converted {
     Done(usize),
     Size,
@@ -26,7 +26,7 @@ pub enum Converted {
 }
 
 // An answer in the documents' numbers: 0 where granted; the record as its place; the records rewritten, 0 where refused.
-#[derive(Drop)]
+#[derive(Clone, Copy)]
 pub struct Numbers {
     pub number: u32,
     pub place: u64,

@@ -21,7 +21,7 @@ use tableau::Sequent;
 
 // The answer: how many formula records are left, or why nothing is written. `numbers_of` of specs/ has the documents' numbers: the check's own where it
 // does not accept, refused with the record (1 to 7) or broken with the node (20 to 26); a lent table that is too short (12).
-#[derive(Drop)]
+#[derive(Clone, Copy)]
 pub enum Compacted {
     Done(usize),
     Refused(u8, usize),

@@ -10,7 +10,7 @@ use std::io::Read;
 use std::rt::{Env, Files};
 
 // What reading a file gives: so many bytes at the start of the buffer, or that it cannot be read or fills the buffer.
-#[derive(Drop)]
+#[derive(Clone, Copy)]
 pub enum Got {
     Whole(usize),
     Unread,

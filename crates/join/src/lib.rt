@@ -16,7 +16,7 @@ use net::{Checked, RECORD, Refusal};
 // The answer: the joint places, the joint marking and the bytes of the joint records; or why the nets are not joined. `numbers_of` of specs/ has the
 // documents' numbers: what loading one of the halves meets, the first before the second (1, 2, 3, 7), places or transitions that add up to more
 // than 64 (15), a room that is shorter than the records (12).
-#[derive(Drop)]
+#[derive(Clone, Copy)]
 pub enum Joined {
     Done(u32, u64, usize),
     Refused(Refusal),
@@ -25,7 +25,7 @@ pub enum Joined {
 }
 
 // An answer in the documents' numbers: 0 where granted; the record as its place; the joint places, marking and bytes of the records, 0 where refused.
-#[derive(Drop)]
+#[derive(Clone, Copy)]
 pub struct Numbers {
     pub number: u32,
     pub place: u64,

@@ -8,7 +8,7 @@ ghost use Rattle.line.specs.Line as lines;
 use checker::Verdict;
 
 // The four files that the program reads.
-#[derive(Drop)]
+#[derive(Clone, Copy)]
 pub enum Input {
     Ask,
     Net,

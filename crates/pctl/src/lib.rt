@@ -13,7 +13,7 @@ use tables::RecordCount;
 pub const RECORD: usize = 8;
 
 // What the input check of the table finds. `checked` of specs/ has document 01's numbers.
-#[derive(Drop)]
+#[derive(Clone, Copy)]
 pub enum Checked {
     Good,
     Size,

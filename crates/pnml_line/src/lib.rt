@@ -13,7 +13,7 @@ use pnml_read::ReadResult;
 use pnml_write::Written;
 
 // A file that cannot be read or written.
-#[derive(Drop)]
+#[derive(Clone, Copy)]
 pub enum Trouble {
     UnreadAsk,
     UnreadNet,

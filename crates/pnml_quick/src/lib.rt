@@ -72,7 +72,7 @@ pub fn there(text: &[u8], at: usize, word: &[u8]) -> bool
 // ---- numbers
 
 // A number, the offset after it, and whether it is there.
-#[derive(Drop)]
+#[derive(Clone, Copy)]
 pub struct Whole {
     pub ok: bool,
     pub at: usize,

@@ -26,7 +26,7 @@ pub enum ReadResult {
 }
 
 // An answer in document 02's numbers: 0 where granted; the offset as its place; the rest 0 where refused.
-#[derive(Drop)]
+#[derive(Clone, Copy)]
 pub struct Numbers {
     pub number: u32,
     pub place: u64,

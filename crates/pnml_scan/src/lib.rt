@@ -7,14 +7,14 @@ ghost use Rattle.pnml_shape.specs.Machine as machine;
 ghost use Rattle.pnml_scan.specs.Serving as serving;
 
 // Where a part of the text ends: whether it is there, and the offset after it, or the offset of the first byte that is not.
-#[derive(Drop)]
+#[derive(Clone, Copy)]
 pub struct Part {
     pub ok: bool,
     pub at: usize,
 }
 
 // The same with the number that was read.
-#[derive(Drop)]
+#[derive(Clone, Copy)]
 pub struct Numbered {
     pub ok: bool,
     pub at: usize,
@@ -435,7 +435,7 @@ pub struct Arc {
 }
 
 // Where an arc ends, and the arc.
-#[derive(Drop)]
+#[derive(Clone, Copy)]
 pub struct ArcRead {
     pub ok: bool,
     pub at: usize,

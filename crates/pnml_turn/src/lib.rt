@@ -11,7 +11,7 @@ use pnml_scan::Arc;
 
 // One turn: an element and the offset after it (a place with its mark, a transition with its entry, an arc into a transition from a place
 // or out of it), the end of the text, or the offset where it leaves the shape.
-#[derive(Drop)]
+#[derive(Clone, Copy)]
 pub enum Turn {
     Place(usize, usize),
     Transition(usize, usize),
@@ -329,7 +329,7 @@ fn advance(
 
 // A text that was read: whether it is of the shape, else the offset where it leaves it; how many places and transitions it has, and the
 // marking of at most 64 places.
-#[derive(Drop)]
+#[derive(Clone, Copy)]
 pub struct Reading {
     pub ok: bool,
     pub at: usize,

@@ -8,7 +8,7 @@ ghost use Rattle.pnml_write.specs.Answer as answers;
 use net::{Checked, Refusal};
 
 // The answer: the length of the text, or why there is none. `found_of` of specs/ has the documents' numbers.
-#[derive(Drop)]
+#[derive(Clone, Copy)]
 pub enum Written {
     Length(usize),
     Short,
@@ -16,7 +16,7 @@ pub enum Written {
 }
 
 // An answer in the documents' numbers: 0 where granted; the record as its place; the length of the text, 0 where refused.
-#[derive(Drop)]
+#[derive(Clone, Copy)]
 pub struct Numbers {
     pub number: u32,
     pub place: u64,

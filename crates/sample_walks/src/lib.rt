@@ -46,7 +46,7 @@ pub enum Start {
 }
 
 // What is read: document 01's number and record, marking, count and stored set.
-#[derive(Drop)]
+#[derive(Clone, Copy)]
 pub struct Seen {
     pub number: u32,
     pub place: u64,
@@ -56,7 +56,7 @@ pub struct Seen {
 }
 
 // What a walk carries of a transition.
-#[derive(Drop)]
+#[derive(Clone, Copy)]
 pub struct Fields {
     pub pre: u64,
     pub post: u64,

@@ -41,7 +41,7 @@ pub fn u64_at(s: &[u8], at: usize) -> u64
 }
 
 // The number of records of one size in a table, or that its length is no such number of whole records.
-#[derive(Drop)]
+#[derive(Clone, Copy)]
 pub enum RecordCount {
     Whole(usize),
     Refused,

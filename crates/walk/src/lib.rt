@@ -29,7 +29,7 @@ pub struct Walk {
 }
 
 // What a call answers. `answer_of` of specs/ has document 01's numbers.
-#[derive(Drop)]
+#[derive(Clone, Copy)]
 pub enum Answer {
     Granted,
     Unloaded,
@@ -38,14 +38,14 @@ pub enum Answer {
 }
 
 // The answer of load, fire and reset, and the walk after the call; a refused call gives the walk back as it came.
-#[derive(Drop)]
+#[derive(Clone, Copy)]
 pub struct Outcome {
     pub answer: Answer,
     pub walk: Walk,
 }
 
 // The answer of read: the present marking, the count and the stored set, all 0 where it is refused.
-#[derive(Drop)]
+#[derive(Clone, Copy)]
 pub struct Reading {
     pub answer: Answer,
     pub marking: u64,
