@@ -1,7 +1,7 @@
 #!/usr/bin/env python3
-# rat.py CRATE [flags..]: rattle check of a crate with its repository deps given as source
+# from_source.py CRATE [FLAG..]: checks a crate of this checkout, or of ROOT, with the crates below it given as sources, so that these need not be proved.
 import sys,os,re,subprocess
-root=os.environ.get('ROOT','/work/main')
+root=os.path.abspath(os.environ.get('ROOT','.'))
 def crates():
     d={}
     for l in open(root+'/crates.txt'):
@@ -17,7 +17,7 @@ def below(n,acc=None):
             below(x,acc); acc.append(x) if x not in acc else None
     return acc
 n=sys.argv[1]
-K='/opt/rattle'
+K=os.path.dirname(subprocess.run(['rt','doc'],capture_output=True,text=True).stdout.strip())
 src=lambda x: f"{root}/crates/{x}/src/"+('main.rt' if os.path.exists(f"{root}/crates/{x}/src/main.rt") else 'lib.rt')
 ext=[]
 libs=set(['std','core'])

@@ -1,9 +1,15 @@
 #!/usr/bin/env python3
-"""conv.py CRATE [F..]: turns proofs/F/Proof.antt of the tie form into Invariants.antt and Answers.antt."""
+"""Turns proofs/F/Proof.antt of a crate, in the older form, into Invariants.antt and Answers.antt.
+
+usage: NAMES=FILE python3 tools/port/proofs.py CRATE [F..]     at the top of a checkout
+
+FILE is JSON: the objects of the files names.json that `rt check --generated FOLDER --old-names` writes for the crates, in one. What it could not turn it
+tells after a '|'. The proof of a cycle of functions is left.
+"""
 import re,json,sys,os,glob
-root=os.environ.get('ROOT','/work/main')
+root=os.path.abspath(os.environ.get('ROOT','.'))
 crate=sys.argv[1]; only=sys.argv[2:]
-A=json.load(open(os.environ.get('NAMES','/tmp/w/all.json')))
+A=json.load(open(os.environ['NAMES']))
 ID=r"[^\s(){}\[\];,.:→λ\"`]+"
 norm=lambda s:s.replace('_','-')
 def blocks(text):
@@ -193,8 +199,7 @@ def conv(path):
         if ans:
             full='\n\n'.join(([htxt] if htxt else [])+ans)
             open(d+'/Answers.antt','w').write((hd+'\n' if hd else '')+'\n'.join(used(full,uses)+[f'use {mod}.Goals as goal'])+'\n\n'+full+'\n'); made.append('A')
-    os.makedirs('/tmp/w/old/'+crate+'/'+rel,exist_ok=True)
-    os.replace(path,'/tmp/w/old/'+crate+'/'+rel+'/Proof.antt')
+    os.remove(path)
     return ' '.join(made)+(' | '+'; '.join(log) if log else '')
 for p in sorted(glob.glob(f'{root}/crates/{crate}/proofs/**/Proof.antt',recursive=True)):
     rel=os.path.relpath(os.path.dirname(p),f'{root}/crates/{crate}/proofs')
