@@ -1,7 +1,7 @@
 // Files read into whole buffers.
 #![tactic(auto)]
 
-ghost use Rattle.std.specs.Prelude.{◌≡◌, length, replicate};
+ghost use Rattle.std.specs.Prelude.{◌≡◌, IfSome, length, replicate};
 ghost use Rattle.files.specs.Reading.{IsPrefixLen, FileRead};
 
 use std::env::FillError;
@@ -54,25 +54,16 @@ pub fn read_path(rt: &impl Files, path: &[u8], buf: &mut [u8]) -> Got
     read_to_end(&mut file, buf)
 }
 
-// Puts argument i at the start of the buffer and returns its length, or 0 where it is missing or longer than the buffer.
-pub fn argument(rt: &impl Env, i: usize, buf: &mut [u8]) -> usize
-    ensures { IsPrefixLen result buf.new }
+// Puts argument i at the start of the buffer and answers its length, which is 0 where it is longer than the buffer; none where there is no such
+// argument.
+pub fn argument(rt: &impl Env, i: usize, buf: &mut [u8]) -> Option<usize>
+    ensures { IfSome result (λ n. IsPrefixLen n buf.new) }
 {
     match rt.arg(i, buf) {
-        Ok(n) => n,
-        Err(_) => 0,
+        Ok(n) => Some(n),
+        Err(FillError::TooLong) => Some(0),
+        Err(FillError::NotPresent) => None,
     }
-}
-
-// How many arguments there are, the program's own name among them.
-pub fn argument_count(rt: &impl Env) -> usize {
-    let mut word = [0u8; 1];
-    for i in 0..usize::MAX {
-        if let Err(FillError::NotPresent) = rt.arg(i, &mut word) {
-            return i;
-        }
-    }
-    usize::MAX
 }
 
 // Reads the file that an argument names. One that is too long for a path is no file's: its length comes as 0, and the empty path is refused.
@@ -80,6 +71,8 @@ pub fn read_argument(rt: &(impl Env + Files), i: usize, buf: &mut [u8]) -> Got
     ensures { FileRead buf.new result }
 {
     let mut path = [0u8; 4096];
-    let size = argument(rt, i, &mut path);
+    let Some(size) = argument(rt, i, &mut path) else {
+        return Got::Unread;
+    };
     read_path(rt, &path[..size], buf)
 }

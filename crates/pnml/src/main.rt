@@ -41,7 +41,9 @@ fn record_room() -> [u8; 1536]
 // opens none there.
 fn write_argument(rt: HostRuntime, i: usize, bytes: &[u8]) -> bool {
     let mut path = [0u8; 4096];
-    let size = files::argument(&rt, i, &mut path);
+    let Some(size) = files::argument(&rt, i, &mut path) else {
+        return false;
+    };
     let Ok(path) = str::from_utf8(&path[..size]) else {
         return false;
     };
@@ -120,11 +122,19 @@ fn read(rt: HostRuntime) -> io::Result<()> {
     tell_read(rt, &text[..n])
 }
 
+// Whether there are arguments 0, the program's own name, to 3, and no more.
+fn has_three(rt: HostRuntime) -> bool {
+    let mut word = [0u8; 1];
+    files::argument(&rt, 3, &mut word).is_some() && files::argument(&rt, 4, &mut word).is_none()
+}
+
 fn main(rt: HostRuntime) -> io::Result<()> {
     let mut buf = [0u8; 4096];
-    let size = files::argument(&rt, 1, &mut buf);
-    let word: &[u8] = &buf[..size];
-    let three = files::argument_count(&rt) == 4;
+    let word: &[u8] = match files::argument(&rt, 1, &mut buf) {
+        Some(size) => &buf[..size],
+        None => b"",
+    };
+    let three = has_three(rt);
     if three && word == b"write".as_slice() {
         write(rt)
     } else if three && word == b"read".as_slice() {

@@ -50,11 +50,18 @@ fn run(rt: HostRuntime, named: bool) -> io::Result<()> {
     tell_check(rt, &ask[..a], &net[..n], &formulas[..f], &tree[..t])
 }
 
+// Whether there are arguments 0, the program's own name, to last, and no more.
+fn ends_with(rt: HostRuntime, last: u8) -> bool {
+    let last = usize::from(last);
+    let mut word = [0u8; 1];
+    files::argument(&rt, last, &mut word).is_some()
+        && files::argument(&rt, last + 1, &mut word).is_none()
+}
+
 fn main(rt: HostRuntime) -> io::Result<()> {
-    let words = files::argument_count(&rt);
-    if words == 1 {
+    if ends_with(rt, 0) {
         run(rt, false)
-    } else if words == 5 {
+    } else if ends_with(rt, 4) {
         run(rt, true)
     } else {
         let _ = rt
