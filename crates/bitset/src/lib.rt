@@ -1,7 +1,7 @@
 // Sets of the numbers 0 to 63, each as one u64: k is in s where bit k of s is 1.
 #![tactic(auto)]
 
-ghost use Rattle.std.specs.Prelude.{◌≡◌, ◌≤◌, ◌<◌, ◌^◌};
+ghost use Rattle.std.specs.Prelude.{◌≡◌, ℕ, Bool, ◌≤◌, ◌<◌, ◌^◌};
 ghost use Rattle.std.specs.Int.Count.{ones};
 ghost use Rattle.bitset.specs.Sets as sets;
 
@@ -67,6 +67,19 @@ pub fn add(s: u64, k: u32, on: bool) -> u64
         return union(s, bit(k));
     }
     s
+}
+
+// The set of the numbers below n that pass a test.
+pub fn collect<F: Fn(usize) -> bool>(n: u32, test: F) -> u64
+    requires most { n ≤ 64 }
+    requires callable { (k : ℕ) → k < n → F.pre test k }
+    ensures { (f : ℕ → Bool) → ((k : ℕ) (b : Bool) → k < n → F.post test k b → b ≡ f k) → result ≡ sets.collect f n }
+{
+    let mut set = 0;
+    for k in 0..n {
+        set = add(set, k, test(k as usize));
+    }
+    set
 }
 
 // Whether each member of s is below n.

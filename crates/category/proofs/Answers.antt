@@ -2,40 +2,32 @@
 use mathlib.Core.Path.{◌≡◌, refl, sym, ap, ◌∙◌}
 use mathlib.Core.Bool.{Bool, true, false, cond, ◌&&◌}
 use mathlib.Core.List.{List}
-use Prim.Native.Nat.{ℕ, ◌/◌, ◌≤◌, ◌<◌}
+use Prim.Native.Nat.{ℕ, ◌≤◌, ◌<◌}
 use native.Mathlib.Omega.{arith}
 use lib.ListN.{length}
 use lib.Dec.{eqb}
 use borrow.Author.Tests.{eqb-true}
-use Rattle.tables.specs.declared.RecordCount.TheVariants.{Whole, Refused}
-use Rattle.tables.specs.Lists.{first}
-use Rattle.tables.specs.Sizes.{sized, records_of}
-use Rattle.tables.specs.Faults.{Fault, scan_fault}
-use Rattle.tables.proofs.Counts.{sized_most, whole_count}
-use Rattle.tables.proofs.Scans.{scan_size, scan_record, scan_good, scan_passed}
+use Rattle.std.proofs.Common.{Result, Ok, Err}
+use Rattle.std.specs.Result.{is_ok}
+use Rattle.tables.specs.declared.TableFault.{TableFault}
+use Rattle.tables.specs.declared.TableFault.TheVariants.{Size, Record}
+use Rattle.tables.specs.Sizes.{sized}
+use Rattle.tables.specs.Faults.{Fault, fault}
+use Rattle.tables.specs.Checks.{told, answered}
+use Rattle.tables.proofs.Counts.{sized_most}
+use Rattle.tables.proofs.Scans.{scan_passed}
 use Rattle.tables.proofs.Tests.{if_true, if_false, and_left, and_right}
 use Rattle.category.specs.Records.{count}
 use Rattle.category.specs.Faults.{record_bad, file_fault, faultless, check_fault, checked}
-use Rattle.category.specs.declared.Checked.{Checked}
-use Rattle.category.specs.declared.Checked.TheVariants.{Good, Size, Record}
 
--- a file of `len` bytes whose records are tested by `bad`: its length, a faulty record, none
-module _ (bad : ℕ → Bool) (len : ℕ) where
-  pub told_size : records_of 32 0 2000 len ≡ Refused → checked Size ≡ scan_fault 9 10 32 0 2000 bad len
-  unfolding checked
-  told_size e = scan_size 9 10 32 0 2000 bad len e
+-- the numbers of a refusal
+pub size_told : (a : Result (Unit {0}) TableFault) (f : TableFault) → a ≡ Err f → f ≡ Size → fault 9 0 ≡ checked a
+unfolding checked answered told
+size_told a f e p = rw (e, p)
 
-  module _ (n b : ℕ) (e : records_of 32 0 2000 len ≡ Whole n) (p : b ≡ first bad (len / 32)) where
-    first_of : b ≡ first bad n
-    first_of = p ∙ ap (first bad) (sym (whole_count 32 0 2000 len n e))
-
-    pub told_record : b < n → checked (Record b) ≡ scan_fault 9 10 32 0 2000 bad len
-    unfolding checked
-    told_record h = scan_record 9 10 32 0 2000 bad len n b e first_of h
-
-    pub told_good : n ≤ b → checked Good ≡ scan_fault 9 10 32 0 2000 bad len
-    unfolding checked
-    told_good h = scan_good 9 10 32 0 2000 bad len n b e first_of h
+pub record_told : (a : Result (Unit {0}) TableFault) (f : TableFault) (r : ℕ) → a ≡ Err f → f ≡ Record r → fault 10 r ≡ checked a
+unfolding checked answered told
+record_told a f r e p = rw (e, p)
 
 module _ (file : List ℕ) where
   -- what a faultless file has: at most 2,000 records, none of them faulty
@@ -49,18 +41,24 @@ module _ (file : List ℕ) where
   pub faultless_record : faultless file ≡ true → (k : ℕ) → k < count file → record_bad file k ≡ false
   faultless_record e = (passes e).1
 
--- both files, by the answer for the translation
+-- an answer passes where its number is 0
+passes_by : (o : Result (Unit {0}) TableFault) → is_ok o ≡ eqb (checked o).number 0
+unfolding checked answered told
+passes_by (Ok u) = refl
+passes_by (Err Size) = refl
+passes_by (Err (Record r)) = refl
+
+-- both files
 module _ (translation house : List ℕ) where
-  number_is : (o : Checked) (f : Fault) (b : Bool) → checked o ≡ f → eqb (checked o).number 0 ≡ b → eqb f.number 0 ≡ b
-  number_is o f b e g = ap (λ (x : Fault). eqb x.number 0) (sym e) ∙ g
+  -- by the answer for the translation: it has a fault, or none
+  pub check_first : (f : TableFault) → checked (Err f) ≡ file_fault translation → checked (Err f) ≡ check_fault translation house
+  unfolding checked answered told check_fault
+  check_first Size e = e ∙ sym (if_false _ (file_fault house) (file_fault translation) (ap (λ (x : Fault). eqb x.number 0) (sym e)))
+  check_first (Record r) e = e ∙ sym (if_false _ (file_fault house) (file_fault translation) (ap (λ (x : Fault). eqb x.number 0) (sym e)))
 
-  pub check_second : (o : Checked) → checked o ≡ file_fault translation → eqb (checked o).number 0 ≡ true → file_fault house ≡ check_fault translation house
-  unfolding check_fault
-  check_second o e g = sym (if_true _ (file_fault house) (file_fault translation) (number_is o (file_fault translation) true e g))
-
-  pub check_first : (o : Checked) → checked o ≡ file_fault translation → eqb (checked o).number 0 ≡ false → checked o ≡ check_fault translation house
-  unfolding check_fault
-  check_first o e g = e ∙ sym (if_false _ (file_fault house) (file_fault translation) (number_is o (file_fault translation) false e g))
+  pub check_second : (u : Unit {0}) → checked (Ok u) ≡ file_fault translation → file_fault house ≡ check_fault translation house
+  unfolding checked answered check_fault
+  check_second u e = sym (if_true _ (file_fault house) (file_fault translation) (ap (λ (x : Fault). eqb x.number 0) (sym e)))
 
   -- neither is faulty where the number is 0
   check_good : eqb (check_fault translation house).number 0 ≡ (faultless translation && faultless house)
@@ -72,8 +70,8 @@ module _ (translation house : List ℕ) where
       by true e = refl
       by false e = e
 
-  pub both_good : (o : Checked) → checked o ≡ check_fault translation house → eqb (checked o).number 0 ≡ (faultless translation && faultless house)
-  both_good o e = ap (λ (x : Fault). eqb x.number 0) e ∙ check_good
+  pub both_good : (o : Result (Unit {0}) TableFault) → checked o ≡ check_fault translation house → is_ok o ≡ (faultless translation && faultless house)
+  both_good o e = passes_by o ∙ ap (λ (x : Fault). eqb x.number 0) e ∙ check_good
 
   -- each of them
   pub first_good : (faultless translation && faultless house) ≡ true → faultless translation ≡ true

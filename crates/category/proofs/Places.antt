@@ -2,16 +2,18 @@
 use mathlib.Core.Path.{◌≡◌, refl, sym, ap, ◌∙◌}
 use mathlib.Core.Bool.{Bool, true, false, cond, ◌&&◌}
 use mathlib.Core.List.{List, []}
-use Prim.Native.Nat.{ℕ, ◌+◌, ◌≤◌, ◌<◌}
+use Prim.Native.Nat.{ℕ, ◌+◌, ◌<◌}
+use native.Mathlib.Omega.{arith}
 use native.Mathlib.Nat.{zero-add}
-use lib.ListN.{length, take, drop}
+use lib.ListN.{take, drop}
 use borrow.Author.Tests.{lt-ltb, le-ltb}
 use Rattle.category.specs.Faults.{faultless}
-use Rattle.category.specs.Labels.{has, text_offset, text_size, text_of, label_of, place_in, nowhere, place_of, file_of, bytes_at}
+use Rattle.category.specs.Records.{count}
+use Rattle.category.specs.Labels.{has, record_of, text_offset, text_of, label_of, place_in, nowhere, place_of, file_of, bytes_at}
 use Rattle.category.specs.declared.LabelPlace.{LabelPlace}
-use Rattle.category.proofs.Sources.{length_text, lacks}
+use Rattle.category.proofs.Sources.{lacks}
 use Rattle.category.proofs.Answers.{first_good, second_good}
-use Rattle.category.proofs.Faultless.{has_size}
+use Rattle.category.proofs.Faultless.{has_record}
 
 module _ (translation house : List ℕ) (a : ℕ) where
   place_label : bytes_at translation house (place_of translation house a) ≡ label_of translation house a
@@ -31,27 +33,27 @@ module _ (translation house : List ℕ) (a : ℕ) where
       → (p ≡ place_of translation house a) × (bytes_at translation house p ≡ label_of translation house a)
   placed p e = (e, ap (bytes_at translation house) e ∙ place_label)
 
-  -- the place, by the sizes of the two texts
+  -- the place, by the records that the two searches answer
   pub placed_faulty : (faultless translation && faultless house) ≡ false → nowhere ≡ place_of translation house a
   unfolding place_of
   placed_faulty g = rw g
 
   module _ (g : (faultless translation && faultless house) ≡ true) where
-    pub placed_first : 0 < text_size translation a → place_in 0 translation a ≡ place_of translation house a
+    pub placed_first : record_of translation a < count translation → place_in 0 translation a ≡ place_of translation house a
     unfolding place_of
-    placed_first l = rw (g, has_size translation (first_good translation house g) a, lt-ltb 0 (text_size translation a) l)
+    placed_first l = rw (g, has_record translation (first_good translation house g) a, lt-ltb (record_of translation a) (count translation) l)
 
-    module _ (n : text_size translation a ≤ 0) where
+    module _ (n : record_of translation a ≡ count translation) where
       lacking : has translation a ≡ false
-      lacking = has_size translation (first_good translation house g) a ∙ le-ltb 0 (text_size translation a) n
+      lacking = has_record translation (first_good translation house g) a ∙ le-ltb (record_of translation a) (count translation) (omega arith)
 
-      pub placed-second : 0 < text_size house a → place_in 1 house a ≡ place_of translation house a
+      pub placed-second : record_of house a < count house → place_in 1 house a ≡ place_of translation house a
       unfolding place_of
-      placed-second l = rw (g, lacking, has_size house (second_good translation house g) a, lt-ltb 0 (text_size house a) l)
+      placed-second l = rw (g, lacking, has_record house (second_good translation house g) a, lt-ltb (record_of house a) (count house) l)
 
-      pub placed-neither : text_size house a ≤ 0 → nowhere ≡ place_of translation house a
+      pub placed-neither : record_of house a ≡ count house → nowhere ≡ place_of translation house a
       unfolding place_of
-      placed-neither l = rw (g, lacking, has_size house (second_good translation house g) a, le-ltb 0 (text_size house a) l)
+      placed-neither e = rw (g, lacking, has_record house (second_good translation house g) a ∙ le-ltb (record_of house a) (count house) (omega arith))
 
   -- what `label` ensures of the bytes l that stand at x, y, where the files stand at tx, ty and hx, hy
   module _ {A : Type 0} (tx hx : A) (ty hy : ℕ) where
@@ -81,11 +83,3 @@ module _ (translation house : List ℕ) (a : ℕ) where
     pub label_none : nowhere ≡ place_of translation house a → Told [] tx ty
     unfolding bytes_at nowhere file_of
     label_none e = told nowhere e [] tx ty refl refl (sym (zero-add ty))
-
--- the size of a text, by what a lookup gives
-pub size_of_place : (number : ℕ) (file : List ℕ) (a : ℕ) (p : LabelPlace) → p ≡ place_in number file a → p.length ≡ text_size file a
-unfolding place_in
-size_of_place number file a p e = ap (λ (q : LabelPlace). q.length) e
-
-pub size_of_text : (file : List ℕ) (a : ℕ) (l : List ℕ) → l ≡ text_of file a → length l ≡ text_size file a
-size_of_text file a l e = ap length e ∙ length_text file a

@@ -17,19 +17,19 @@ use Rattle.category.specs.Labels.{reaches, stop_of, record_of}
 use Rattle.category.proofs.Ascent.{Rising}
 
 module _ (file : List ℕ) (a : ℕ) where
-  -- by the record s where the search stops
-  module _ (s : ℕ) (e : s ≡ stop_of file a) where
-    pub record_hit : s < count file → has_action file a s ≡ true → s ≡ record_of file a
+  -- by where the search stops: at the record s, or nowhere
+  module _ (s : ℕ) (e : stop_of file a ≡ s) (l : s < count file) where
+    pub record_hit : has_action file a s ≡ true → record_of file a ≡ s
     unfolding record_of
-    record_hit l h = rw (← e, lt-ltb s (count file) l, h)
+    record_hit h = rw (e, lt-ltb s (count file) l, h)
 
-    pub record_other : s < count file → has_action file a s ≡ false → count file ≡ record_of file a
+    pub record_other : has_action file a s ≡ false → record_of file a ≡ count file
     unfolding record_of
-    record_other l h = rw (← e, lt-ltb s (count file) l, h)
+    record_other h = rw (e, lt-ltb s (count file) l, h)
 
-    pub record_end : count file ≤ s → count file ≡ record_of file a
-    unfolding record_of
-    record_end l = rw (← e, le-ltb s (count file) l)
+  pub record_end : stop_of file a ≡ count file → record_of file a ≡ count file
+  unfolding record_of
+  record_end e = let l : count file ≤ count file = omega arith in rw (e, le-ltb (count file) (count file) l)
 
   -- it answers a record of the file that has the action, or nothing
   found_or_none : ((record_of file a < count file) × (has_action file a (record_of file a) ≡ true)) ⊎ (record_of file a ≡ count file)
@@ -57,7 +57,7 @@ module _ (file : List ℕ) (a : ℕ) where
 module _ {file : List ℕ} (r : Rising file (count file)) where
   pub record_is : (i : ℕ) → i < count file → i ≡ record_of file (action_at file i)
   unfolding stop_of reaches has_action
-  record_is i l = record_hit file (action_at file i) i (sym stops) l (eq-eqb (action_at file i) (action_at file i) refl)
+  record_is i l = sym (record_hit file (action_at file i) i stops l (eq-eqb (action_at file i) (action_at file i) refl))
     where
       stops : stop_of file (action_at file i) ≡ i
       stops =

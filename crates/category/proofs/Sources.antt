@@ -1,19 +1,22 @@
 -- The part of a file that is the text of an action, by the record which the search answers; it lies inside the file. Assumes nothing.
-use mathlib.Core.Path.{◌≡◌, refl, sym}
+use mathlib.Core.Path.{◌≡◌, refl, sym, ap}
 use mathlib.Core.Bool.{Bool, true, false, cond}
-use mathlib.Core.List.{List}
+use mathlib.Core.List.{List, []}
 use Prim.Native.Nat.{ℕ, ◌+◌, ◌-◌, ◌*◌, ◌≤◌, ◌<◌}
 use native.Mathlib.Omega.{arith}
-use lib.ListN.{length, drop, length-drop}
+use lib.ListN.{length, take, drop, length-drop}
 use lib.Seq.{length-take-le}
 use lib.Dec.{eqb, ltb}
 use borrow.Author.Tests.{lt-ltb, le-ltb, ltb-true, ltb-false}
+use Rattle.std.proofs.Common.{Option, Some, None, MatchOption}
+use Rattle.std.specs.Option.{unwrap_or}
 use Rattle.tables.specs.Below.{some_below}
 use Rattle.tables.specs.Lists.{first}
 use Rattle.tables.proofs.Entries.{first_le}
 use Rattle.tables.proofs.Counts.{record_inside}
 use Rattle.category.specs.Records.{count, text_byte, text_length, has_action}
 use Rattle.category.specs.Labels.{has, record_of, text_offset, text_size, text_of}
+use Rattle.category.specs.Serving.{IsAnswer}
 use Rattle.category.proofs.Search.{record_none}
 
 module _ (file : List ℕ) (a : ℕ) where
@@ -54,6 +57,19 @@ length_text file a = length-take-le (text_size file a) (drop (text_offset file a
   where
     room : text_size file a ≤ length file - text_offset file a
     room = omega (arith, part_inside file a)
+
+-- where the search answers nothing, the text is empty and stands at the start
+pub nothing : (file : List ℕ) (a : ℕ) → record_of file a ≡ count file → ([] ≡ text_of file a) × (0 ≡ text_offset file a)
+unfolding text_of
+nothing file a e =
+    let s : 0 ≡ text_size file a = size_out file a (count file) (sym e) (omega arith) in
+    (ap (λ (n : ℕ). take n (drop (text_offset file a) file)) s, offset_out file a (count file) (sym e) (omega arith))
+
+-- what the search answers, or what stands for it where it answers nothing
+pub answer_or : {X : Type 0} (file : List ℕ) (a : ℕ) (IsSo IsAt : X → Type 0) (r : Option X) (d : X) → IsAnswer file a r IsSo
+    → MatchOption r (Unit {0}) IsAt → (record_of file a ≡ count file → IsSo d × IsAt d) → IsSo (unwrap_or r d) × IsAt (unwrap_or r d)
+answer_or file a IsSo IsAt None d h k z = z h
+answer_or file a IsSo IsAt (Some x) d h k z = (h.1, k)
 
 -- no record, no text
 pub lacks : (file : List ℕ) (a : ℕ) → has file a ≡ false → 0 ≡ text_size file a

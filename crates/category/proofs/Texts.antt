@@ -1,13 +1,15 @@
 -- The text of a record, byte by byte: what the two runs say together. Assumes nothing.
-use mathlib.Core.Path.{◌≡◌, sym, ap, ap₂, ◌∙◌, subst}
+use mathlib.Core.Path.{◌≡◌, refl, sym, ap, ap₂, ◌∙◌, subst}
 use mathlib.Core.Bool.{Bool, true, false, not, ◌&&◌, or-true, or-false, false≢true}
 use mathlib.Core.Logic.{⊎_elim}
 use mathlib.Core.List.{List}
-use Prim.Native.Nat.{ℕ, zero, suc, ◌+◌, ◌-◌, ◌≤◌, ◌<◌, zero-le}
+use Prim.Native.Nat.{ℕ, zero, suc, ◌+◌, ◌-◌, ◌*◌, ◌≤◌, ◌<◌, zero-le}
 use native.Mathlib.Nat.{le_of_suc-le-suc, eq-or-lt_of_le, zero-add}
 use native.Mathlib.Numerals.{add-one}
 use native.Mathlib.Omega.{arith}
+use lib.ListN.{get_or, take, drop}
 use lib.Dec.{eqb, leb}
+use Rattle.std.proofs.lemmas.List.{get_or-take, get_or-drop}
 use borrow.Author.Tests.{lt-ltb, le-ltb, le-leb, leb-true, eqb-true, not-false}
 use Rattle.tables.specs.Below.{every_below, none_below}
 use Rattle.tables.specs.Lists.{first}
@@ -48,12 +50,18 @@ zero_not_good : good_byte 0 ≡ true → ⊥
 unfolding good_byte
 zero_not_good e = false≢true e
 
+-- two tests that agree below n
+every_same : {f g : ℕ → Bool} (n : ℕ) → ((k : ℕ) → k < n → f k ≡ g k) → every_below f n ≡ every_below g n
+unfolding every_below
+every_same zero h = refl
+every_same (suc n) h = ap₂ ◌&&◌ (every_same n (λ k l. h k (omega arith))) (h n (omega arith))
+
 -- ---- a text of 24 bytes
 
 abbrev size_of : (ℕ → ℕ) → ℕ
 size_of t = first (λ j. eqb (t j) 0) 24
 
-abbrev run : (ℕ → ℕ) → ℕ → Bool
+abbrev pub run : (ℕ → ℕ) → ℕ → Bool
 run t from = every_below (λ k. follows (t (from + k)) (t (from + k + 1))) 16
 
 module _ (t : ℕ → ℕ) where
@@ -135,6 +143,14 @@ module _ (t : ℕ → ℕ) where
           λ j l. none_at (λ j. wrong_byte (size_of t) j (t j)) 24 j (and_right (leb 1 (size_of t)) (none_below (λ j. wrong_byte (size_of t) j (t j)) 24) e) l in
           ap₂ ◌&&◌ (ap₂ ◌&&◌ (good_at s h 0 s (omega arith)) (follow_run (follow_all s h) 0 zero-le)) (follow_run (follow_all s h) 7 (omega arith))
 
-pub text-good : (file : List ℕ) (i : ℕ) → (good_byte (text_byte file i 0) && run_follows file i 0 && run_follows file i 7) ≡ text_good file i
-unfolding text_good text_is text_length run_follows
+-- the run of 17 bytes of a text from byte `from` on
+pub run_at : (file : List ℕ) (i from at n : ℕ) → at ≡ i * 32 + 8 + from → n ≡ 17 → run_follows (take n (drop at file)) ≡ run (text_byte file i) from
+unfolding run_follows text_byte
+run_at file i from at n e z = every_same 16 (λ k l. ap₂ follows (entry k (from + k) (omega arith) (omega arith)) (entry (k + 1) (from + k + 1) (omega arith) (omega arith)))
+  where
+    entry : (k j : ℕ) → k < n → from + k ≡ j → get_or (take n (drop at file)) k 0 ≡ get_or file (i * 32 + 8 + j) 0
+    entry k j l q = get_or-take n (drop at file) k 0 l ∙ get_or-drop at file k 0 ∙ ap (λ (x : ℕ). get_or file x 0) (omega arith)
+
+pub text-good : (file : List ℕ) (i : ℕ) → (good_byte (text_byte file i 0) && run (text_byte file i) 0 && run (text_byte file i) 7) ≡ text_good file i
+unfolding text_good text_is text_length
 text-good file i = runs_good (text_byte file i)

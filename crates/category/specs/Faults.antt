@@ -1,11 +1,11 @@
 -- Which category records are faulty, and the number and the record that a check gives. Document 01: "Actions strictly ascend", kind 0, and
 -- refusals 9 and 10. Document 02, F-6: "10 for any kind 1 record outside the converter". Assumes nothing.
-use Rattle.std.specs.Prelude.{ℕ, ◌-◌, Bool, not, cond, ◌&&◌, ◌||◌, List, length, eqb, leb, ltb}
+use Rattle.std.specs.Prelude.{ℕ, ◌-◌, Bool, not, cond, ◌&&◌, ◌||◌, List, Result, length, eqb, leb, ltb}
 use Rattle.tables.specs.Below.{none_below}
-use Rattle.tables.specs.Faults.{Fault, no_fault, fault, or_else, scan_fault}
+use Rattle.tables.specs.Faults.{Fault, or_else, scan_fault}
+use Rattle.tables.specs.Checks.{answered}
+use Rattle.tables.specs.declared.TableFault.{TableFault}
 use Rattle.category.specs.Records.{record_size, text_room, action_at, kind_at, lender_at, text_byte, spare_zero, text_length}
-use Rattle.category.specs.declared.Checked.{Checked}
-use Rattle.category.specs.declared.Checked.TheVariants.{Good, Size, Record}
 
 -- the action of record i is above that of the record before it
 unfoldable pub ascends : List ℕ → ℕ → Bool
@@ -47,8 +47,6 @@ faultless file = eqb (file_fault file).number 0
 unfoldable pub check_fault : (translation house : List ℕ) → Fault
 check_fault translation house = or_else (file_fault translation) (file_fault house)
 
--- document 01's number and record of each answer of `check`
-unfoldable pub checked : Checked → Fault
-checked Good = no_fault
-checked Size = fault 9 0
-checked (Record r) = fault 10 r
+-- document 01's number and record of each answer of `check`: none where it passes, 9 for the size, 10 with the record
+unfoldable pub checked : Result (Unit {0}) TableFault → Fault
+checked = answered 9 10

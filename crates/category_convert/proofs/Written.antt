@@ -44,15 +44,15 @@ module _ (file room : List ℕ) (i : ℕ) where
 
   -- one that borrows, with the text of its source
   pub lent_written : (s : ℕ) {r : List ℕ} → borrows file i ≡ true → s ≡ source_at file i → r ≡ sets room (i * 32) (with_text file i s)
-      → (r ≡ sets room (i * 32) (converted_record file i)) × ◌≡◌ {A = ℕ} 1 (cond (borrows file i) 1 0)
+      → (r ≡ sets room (i * 32) (converted_record file i)) × (true ≡ borrows file i)
   unfolding converted_record
-  lent_written s b e p = (p ∙ ap (sets room (i * 32)) (ap (with_text file i) e ∙ sym (if_true _ _ _ b)), sym (if_true (borrows file i) 1 0 b))
+  lent_written s b e p = (p ∙ ap (sets room (i * 32)) (ap (with_text file i) e ∙ sym (if_true _ _ _ b)), sym b)
 
   -- any other, as it is
   pub own_written : {r : List ℕ} → borrows file i ≡ false → r ≡ sets room (i * 32) (take 32 (drop (i * 32) file))
-      → (r ≡ sets room (i * 32) (converted_record file i)) × ◌≡◌ {A = ℕ} 0 (cond (borrows file i) 1 0)
+      → (r ≡ sets room (i * 32) (converted_record file i)) × (false ≡ borrows file i)
   unfolding converted_record
-  own_written b p = (p ∙ ap (sets room (i * 32)) (sym (if_false _ _ _ b)), sym (if_false (borrows file i) 1 0 b))
+  own_written b p = (p ∙ ap (sets room (i * 32)) (sym (if_false _ _ _ b)), sym b)
 
 -- ---- all records
 
@@ -67,25 +67,21 @@ pub written_none : (file room : List ℕ) → Written file room room 0 0
 unfolding count_below
 written_none file room = record { inside = omega arith; records = stored_none (converted_record file) room 0; number = refl; most = omega arith }
 
--- a record counts at most once
-pub once : (file : List ℕ) (i : ℕ) {d : ℕ} → d ≡ cond (borrows file i) 1 0 → d ≤ 1
-once file i {d} e = by (borrows file i) e
-  where
-    by : (b : Bool) → d ≡ cond b 1 0 → d ≤ 1
-    by true e = omega arith
-    by false e = omega arith
-
 module _ {file room₀ room : List ℕ} {k i : ℕ} (v : valid file ≡ true) (w : Written file room₀ room k i) where
-  pub written_next : {r : List ℕ} {d : ℕ} → i < count file → r ≡ sets room (i * 32) (converted_record file i) → d ≡ cond (borrows file i) 1 0
-      → Written file room₀ r (k + d) (i + 1)
+  pub written_next : {r : List ℕ} {k' : ℕ} (b : Bool) → b ≡ borrows file i → i < count file → r ≡ sets room (i * 32) (converted_record file i)
+      → k' ≡ k + cond b 1 0 → Written file room₀ r k' (i + 1)
   unfolding count_below
-  written_next l p q =
+  written_next b p l q e =
       record {
         inside = omega arith;
-        records = stored_next w.records (i * 32) (omega (arith, length_to file v i w.inside)) p;
-        number = ap₂ ◌+◌ w.number q ∙ ap (count_below (borrows file)) (sym (add-one i));
-        most = omega (arith, w.most, once file i q);
+        records = stored_next w.records (i * 32) (omega (arith, length_to file v i w.inside)) q;
+        number = e ∙ ap₂ (λ (x : ℕ) (y : Bool). x + cond y 1 0) w.number p ∙ ap (count_below (borrows file)) (sym (add-one i));
+        most = omega (arith, w.most, e, once b);
       }
+    where
+      once : (t : Bool) → cond t 1 0 ≤ 1
+      once true = omega arith
+      once false = omega arith
 
   pub written_all : count file ≤ i → length file ≤ length room₀ → (room ≡ converted file ++ drop (length file) room₀) × (k ≡ rewritten file)
   unfolding converted rewritten

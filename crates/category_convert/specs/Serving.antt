@@ -1,16 +1,14 @@
 -- Serves the code's proof only: contracts cite it, no meaning depends on it.
 -- Assumes nothing.
 use Rattle.std.specs.Prelude.{ℕ, ◌≤◌, ◌<◌, ◌≡◌, Bool, true, false, not, List}
+use Rattle.std.specs.Bool.{MatchBool}
 use Rattle.tables.specs.Lists.{first}
 use Rattle.category.specs.Records.{count, action_at}
 use Rattle.category.specs.Faults.{ascends}
 
--- r is the lowest number from `from` on and below n that passes the test f, or n where none does
-pub record LowestFrom (f : ℕ → Bool) (from n r : ℕ) : Type 0 where
-  pub start : from ≤ r
-  pub end : r ≤ n
-  pub before : (k : ℕ) → from ≤ k → k < r → f k ≡ false
-  pub found : r < n → f r ≡ true
+-- r says whether some number from `from` on and below n passes the test f
+abbrev pub SomeFrom : (ℕ → Bool) → (from n : ℕ) → Bool → Type 0
+SomeFrom f from n r = MatchBool r ((k : ℕ) × (from ≤ k) × (k < n) × (f k ≡ true)) ((k : ℕ) → from ≤ k → k < n → f k ≡ false)
 
 -- how many records at the start of the file have strictly ascending actions
 unfoldable pub ascending_prefix : List ℕ → ℕ

@@ -8,7 +8,7 @@ use native.Mathlib.Numerals.{add-one}
 use native.Mathlib.Omega.{arith}
 use lib.ListN.{length, get_or}
 use lib.Seq.{sets}
-use lib.Dec.{eqb, leb}
+use lib.Dec.{leb}
 use borrow.Author.Tests.{leb-true, not-true, not-false}
 use Rattle.tables.specs.Lists.{tab, laid}
 use Rattle.tables.specs.Below.{count_below}
@@ -45,18 +45,18 @@ use Rattle.compact_tables.specs.Tables.{
 }
 use Rattle.compact_tables.specs.Answer.{refuse, front, granted, roomy, write_answer}
 use Rattle.compact_tables.proofs.Reaching.{reached_self, reached_most}
-use Rattle.compact.specs.declared.Compacted.TheVariants.{Done, Short}
+use Rattle.std.proofs.Common.{Ok, Err}
+use Rattle.compact.specs.declared.CompactRefusal.TheVariants.{Short}
 use Rattle.compact.specs.Result.{numbers_of, answer_of}
-use Rattle.compact.specs.Serving.{Ready, mark_of, is_marked, at, kept_by, node_of}
+use Rattle.compact.specs.Serving.{Ready, Marks, is_marked, at, kept_by, node_of}
 use Rattle.compact.proofs.Records.{few_formulas, few, left_few, right_few}
-use Rattle.compact.proofs.Marks.{flag_says}
 use Rattle.compact.proofs.Writing.{kept_whole, formula_few}
 
 -- what the code has found: the ask as it was read, the marks and the numbers
-pub record Found (ask F tree : List ℕ) (a : Ask) (marks numbers : List ℕ) : Type 0 where
+pub record Found (ask F tree : List ℕ) (a : Ask) (marks : List Bool) (numbers : List ℕ) : Type 0 where
   pub ready : Ready ask F tree
   pub asked : a ≡ ask_of ask
-  pub marked : marks ≡ tab (mark_of F a.formula) 256
+  pub marked : Marks (reached F a.formula) marks
   pub numbered : numbers ≡ tab (count_below (is_marked marks)) 256
 
 -- the code's test of the lent tables: for the ask, for n formula records, and for a tree of so many bytes
@@ -91,7 +91,7 @@ record_same m n r p q =
 pub asked_inside : {ask F tree : List ℕ} {a : Ask} → Ready ask F tree → a ≡ ask_of ask → a.formula < formulas F
 asked_inside {F = F} ready e = subst (λ (x : Ask). x.formula < formulas F) (sym e) ready.inside
 
-module _ {ask F tree : List ℕ} {a : Ask} {marks numbers : List ℕ} (w : Found ask F tree a marks numbers) where
+module _ {ask F tree : List ℕ} {a : Ask} {marks : List Bool} {numbers : List ℕ} (w : Found ask F tree a marks numbers) where
   f : ℕ
   f = (ask_of ask).formula
 
@@ -104,11 +104,9 @@ module _ {ask F tree : List ℕ} {a : Ask} {marks numbers : List ℕ} (w : Found
   -- ---- marks and numbers
 
   mark_says : (k : ℕ) → k < 256 → is_marked marks k ≡ reached F f k
-  unfolding is_marked mark_of f
+  unfolding is_marked f
   mark_says k h =
-      ap (λ l. eqb (get_or l k 0) 1) w.marked
-      ∙ ap (λ (x : ℕ). eqb x 1) (get_d_tab (mark_of F a.formula) 256 k 0 h)
-      ∙ flag_says (reached F a.formula k)
+      w.marked.each k h
       ∙ ap (λ (x : Ask). reached F x.formula k) w.asked
 
   counts : (n : ℕ) → n ≤ 256 → count_below (is_marked marks) n ≡ count_below (reached F f) n
@@ -205,7 +203,7 @@ module _ {ask F tree : List ℕ} {a : Ask} {marks numbers : List ℕ} (w : Found
         (ap (λ (x : ℕ). leb x (length rooms.tree)) tree_long)
 
     -- a room is too short
-    pub refused_short : not (enough (at numbers a.formula + 1) (length tree) rooms) ≡ true → answer_of Short rooms ≡ write_answer ask F tree rooms
+    pub refused_short : not (enough (at numbers a.formula + 1) (length tree) rooms) ≡ true → answer_of (Err Short) rooms ≡ write_answer ask F tree rooms
     unfolding answer_of numbers_of write_answer
     refused_short e =
         sym
@@ -232,12 +230,12 @@ module _ {ask F tree : List ℕ} {a : Ask} {marks numbers : List ℕ} (w : Found
       nodes-room = subst (λ (x : ℕ). x ≤ length rooms.tree) (sym w.ready.whole) each.2
 
       -- the new tables are written
-      pub writes : {b : Ask} {r₁ r₂ r₃ : List ℕ} → b ≡ ask_by (λ _. at numbers a.formula) a → r₁ ≡ sets rooms.ask 0 (ask_bytes b)
+      pub writes : {r₁ r₂ r₃ : List ℕ} → r₁ ≡ sets rooms.ask 0 (ask_bytes (record { marking = a.marking; formula = at numbers a.formula; places = a.places; side = a.side }))
           → r₂ ≡ sets rooms.formulas 0 (laid (kept_by F marks numbers) (formulas F))
           → r₃ ≡ sets rooms.tree 0 (laid (node_of tree numbers) (nodes tree))
-          → answer_of (Done (at numbers a.formula + 1)) (tables r₁ r₂ r₃) ≡ write_answer ask F tree rooms
-      unfolding answer_of numbers_of write_answer granted compacted f
-      writes {b} {r₁} {r₂} {r₃} t p q s =
+          → answer_of (Ok (at numbers a.formula + 1)) (tables r₁ r₂ r₃) ≡ write_answer ask F tree rooms
+      unfolding answer_of numbers_of write_answer granted compacted ask_by f
+      writes {r₁} {r₂} {r₃} p q s =
           (λ i. record { found = no_fault; count = count_kept i; rooms = tables (first i) (second i) (third i) })
           ∙ sym
           (if_true (roomy (compacted (tables ask F tree)) rooms) (granted (kept_count F f) (compacted (tables ask F tree)) rooms)
@@ -245,7 +243,7 @@ module _ {ask F tree : List ℕ} {a : Ask} {marks numbers : List ℕ} (w : Found
         where
           first : r₁ ≡ front (new_ask_lem ask F f) rooms.ask
           first =
-              p ∙ ap (sets rooms.ask 0) (ap ask_bytes t ∙ ask_new)
+              p ∙ ap (sets rooms.ask 0) ask_new
               ∙ sets_front rooms.ask (new_ask_lem ask F f) (let m = ask_long in let l = each.0 in omega arith)
 
           second : r₂ ≡ front (new_formulas_lem F f) rooms.formulas

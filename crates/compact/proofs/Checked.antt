@@ -12,7 +12,9 @@ use Rattle.tableau.specs.Rules.{in_range}
 use Rattle.nodes.specs.Nodes.{ask_of, sequent_at, node_at, row_at}
 use Rattle.faults.specs.Faults.{fault_at}
 use Rattle.faults.proofs.Judging.{ranges_low}
-use Rattle.checker.specs.declared.Verdict.TheVariants.{Refused as Bad, Broken as Faulty}
+use Rattle.std.proofs.Common.{Err}
+use Rattle.checker.specs.declared.Rejection.{Rejection}
+use Rattle.checker.specs.declared.Rejection.TheVariants.{Input, Node}
 use Rattle.checker.specs.Outcomes.{Outcome, verdict, net_for, check_outcome}
 use Rattle.checker.proofs.Derived.{node_passed}
 use Rattle.checker.proofs.Admitted.{ask_whole, inside_both, nodes_whole}
@@ -22,7 +24,7 @@ use Rattle.compact_tables.specs.Tables.{Tables, tables, compacted}
 use Rattle.compact_tables.specs.Answer.{Answer, refuse, write_answer, compact_answer}
 use Rattle.compact_tables.specs.Theorem.{Stands, AreBytes, CompactedStand}
 use Rattle.compact_tables.proofs.Worth.{compacted_stand}
-use Rattle.compact.specs.declared.Compacted.TheVariants.{Refused, Broken}
+use Rattle.compact.specs.declared.CompactRefusal.TheVariants.{Rejected}
 use Rattle.compact.specs.Result.{numbers_of, answer_of}
 use Rattle.compact.specs.Serving.{Formulas, Ready}
 use Rattle.compact.proofs.Records.{few}
@@ -50,24 +52,24 @@ module _ (ask net F tree : List ℕ) where
 
   -- ---- the answer
 
-  module _ (rooms : Tables) where
-    answered : Outcome → Answer
-    answered o = cond (eqb o.word 0) (write_answer ask F tree rooms) (refuse (fault o.number o.place) rooms)
+  -- a tree that is not accepted is refused by its own number
+  module _ (r : Rejection) (e : verdict (Err r) ≡ check_outcome ask net F tree) where
+    pub rejected_answer : (rooms : Tables) → answer_of (Err (Rejected r)) rooms ≡ compact_answer ask net F tree rooms
+    unfolding verdict answer_of numbers_of compact_answer
+    rejected_answer rooms = by r e
+      where
+        answered : Outcome → Answer
+        answered o = cond (eqb o.word 0) (write_answer ask F tree rooms) (refuse (fault o.number o.place) rooms)
 
-    pub refused_answer : (number at : ℕ) → verdict (Bad number at) ≡ check_outcome ask net F tree
-        → answer_of (Refused number at) rooms ≡ compact_answer ask net F tree rooms
-    unfolding verdict answer_of numbers_of compact_answer answered
-    refused_answer number at e = ap answered e
+        by : (r : Rejection) → verdict (Err r) ≡ check_outcome ask net F tree
+            → refuse (fault (verdict (Err r)).number (verdict (Err r)).place) rooms ≡ answered (check_outcome ask net F tree)
+        by (Input f) q = ap answered q
+        by (Node f k) q = ap answered q
 
-    pub broken_answer : (number at : ℕ) → verdict (Faulty number at) ≡ check_outcome ask net F tree
-        → answer_of (Broken number at) rooms ≡ compact_answer ask net F tree rooms
-    unfolding verdict answer_of numbers_of compact_answer answered
-    broken_answer number at e = ap answered e
-
-    pub accepted_answer : {x : Answer} → (check_outcome ask net F tree).word ≡ 0 → x ≡ write_answer ask F tree rooms
-        → x ≡ compact_answer ask net F tree rooms
+  module _ (h : (check_outcome ask net F tree).word ≡ 0) where
+    pub accepted_answer : (rooms : Tables) {x : Answer} → x ≡ write_answer ask F tree rooms → x ≡ compact_answer ask net F tree rooms
     unfolding compact_answer
-    accepted_answer h e = e ∙ sym (if_true (eqb (check_outcome ask net F tree).word 0) _ _ (eq-eqb (check_outcome ask net F tree).word 0 h))
+    accepted_answer rooms e = e ∙ sym (if_true (eqb (check_outcome ask net F tree).word 0) _ _ (eq-eqb (check_outcome ask net F tree).word 0 h))
 
   -- ---- what it is worth
 
@@ -77,15 +79,7 @@ module _ (ask net F tree : List ℕ) where
     accepted_worth = compacted_stand ask net F tree b₁ b₂ b₃
 
     -- an outcome without a number is an acceptance
-    unnumbered : {o : Outcome} → o ≡ check_outcome ask net F tree → o.number ≡ 0 → Stands ask net F tree (compacted (tables ask F tree))
-    unnumbered e z = accepted_worth (accepted ask net F tree (sym (ap (λ (o : Outcome). o.number) e) ∙ z))
-
-    pub refused_worth : (number at : ℕ) → verdict (Bad number at) ≡ check_outcome ask net F tree → (numbers_of (Refused number at)).number ≡ 0
+    pub rejected_worth : (r : Rejection) → verdict (Err r) ≡ check_outcome ask net F tree → (numbers_of (Err (Rejected r))).number ≡ 0
         → Stands ask net F tree (compacted (tables ask F tree))
-    unfolding verdict numbers_of
-    refused_worth number at = unnumbered
-
-    pub broken_worth : (number at : ℕ) → verdict (Faulty number at) ≡ check_outcome ask net F tree → (numbers_of (Broken number at)).number ≡ 0
-        → Stands ask net F tree (compacted (tables ask F tree))
-    unfolding verdict numbers_of
-    broken_worth number at = unnumbered
+    unfolding numbers_of
+    rejected_worth r e z = accepted_worth (accepted ask net F tree (sym (ap (λ (o : Outcome). o.number) e) ∙ z))

@@ -9,7 +9,6 @@ use native.Mathlib.Nat.{zero-add}
 use native.Mathlib.Numerals.{add-one}
 use lib.ListN.{length, get_or}
 use lib.Seq.{sets}
-use borrow.Author.Tests.{eq-eqb, ne_eqb}
 use Rattle.tables.specs.Lists.{laid}
 use Rattle.tables.specs.Below.{count_below}
 use Rattle.tables.proofs.Tests.{if_true, if_false}
@@ -43,15 +42,15 @@ record_put number room i {r = r} e a b c d p =
 
 -- ---- the marked records
 
-is-marked : (marks : List ℕ) (i : ℕ) → get_or marks i 0 ≡ 1 → is_marked marks i ≡ true
+is-marked : (marks : List Bool) (i : ℕ) → get_or marks i false ≡ true → is_marked marks i ≡ true
 unfolding is_marked
-is-marked marks i e = eq-eqb (get_or marks i 0) 1 e
+is-marked marks i e = e
 
-not_marked : (marks : List ℕ) (i : ℕ) → (get_or marks i 0 ≡ 1 → ⊥) → is_marked marks i ≡ false
+not_marked : (marks : List Bool) (i : ℕ) → get_or marks i false ≡ false → is_marked marks i ≡ false
 unfolding is_marked
-not_marked marks i d = ne_eqb (get_or marks i 0) 1 d
+not_marked marks i e = e
 
-module _ (F marks numbers : List ℕ) where
+module _ (F : List ℕ) (marks : List Bool) (numbers : List ℕ) where
   kept_length : (i : ℕ) → length (kept_by F marks numbers i) ≡ cond (is_marked marks i) formula_size 0
   unfolding kept_by
   kept_length i = by (is_marked marks i)
@@ -78,7 +77,7 @@ module _ (F marks numbers : List ℕ) where
     kept_most = let q = w.count in let l = count_most (is_marked marks) i in omega arith
 
     -- record i is not marked
-    pub kept_skip : i < formulas F → (get_or marks i 0 ≡ 1 → ⊥) → Kept room₀ room n (i + 1)
+    pub kept_skip : i < formulas F → get_or marks i false ≡ false → Kept room₀ room n (i + 1)
     unfolding kept_by
     kept_skip h d =
         record {
@@ -90,7 +89,7 @@ module _ (F marks numbers : List ℕ) where
         }
 
     -- there is room for one that is marked
-    pub kept_room : i < formulas F → get_or marks i 0 ≡ 1 → count_below (is_marked marks) (formulas F) * formula_size ≤ length room₀
+    pub kept_room : i < formulas F → get_or marks i false ≡ true → count_below (is_marked marks) (formulas F) * formula_size ≤ length room₀
         → n * formula_size + formula_size ≤ length room
     kept_room h e r =
         let s = w.laid.size in
@@ -98,7 +97,7 @@ module _ (F marks numbers : List ℕ) where
         let l = count_above (is_marked marks) i (formulas F) h (is-marked marks i e) in
         omega arith
 
-    pub kept_next : {r : List ℕ} → i < formulas F → get_or marks i 0 ≡ 1
+    pub kept_next : {r : List ℕ} → i < formulas F → get_or marks i false ≡ true
         → r ≡ sets room (n * formula_size) (formula_bytes (record_by (at numbers) (record_at F i))) → Kept room₀ r (n + 1) (i + 1)
     unfolding kept_by
     kept_next h e p =
@@ -143,16 +142,31 @@ module _ (tree numbers : List ℕ) where
     pub put_room : k < nodes tree → nodes tree * node_size ≤ length room₀ → k * node_size + node_size ≤ length room
     put_room h r = let s = w.laid.size in omega arith
 
-    pub put_next : {r : List ℕ} {n m : Node} → k < nodes tree → n ≡ node_at tree k → m ≡ node_by (λ _. at numbers n.sequent.formula) n
-        → r ≡ sets room (k * node_size) (node_bytes m) → Put room₀ r (k + 1)
+    pub put_next : {r : List ℕ} {n : Node} → k < nodes tree → n ≡ node_at tree k
+        → r ≡ sets room (k * node_size) (node_bytes (record {
+          sequent = record {
+            marking = n.sequent.marking;
+            anchor = n.sequent.anchor;
+            kept = n.sequent.kept;
+            formula = at numbers n.sequent.formula;
+            side = n.sequent.side;
+            phase = n.sequent.phase;
+            round = n.sequent.round;
+          };
+          parent = n.parent;
+          first = n.first;
+          children = n.children;
+          rule = n.rule;
+          transition = n.transition;
+        }))
+        → Put room₀ r (k + 1)
     unfolding node_of node_by sequent_by
-    put_next h e p q =
+    put_next h e q =
         record {
           below = omega arith;
           laid =
               stored_next w.laid (k * node_size) (sym (zero-add _ ∙ node_whole k))
               (q
-              ∙ ap (λ (x : Node). sets room (k * node_size) (node_bytes x)) p
               ∙ ap (λ (x : Node). sets room (k * node_size) (node_bytes (node_by (at numbers) x))) e);
         }
 

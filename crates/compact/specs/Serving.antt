@@ -1,12 +1,11 @@
 -- Serves the code's proof only: contracts cite it, no meaning depends on it. Assumes nothing.
-use Rattle.std.specs.Prelude.{◌≡◌, ℕ, ◌*◌, ◌<◌, Bool, true, cond, ◌&&◌, ◌||◌, List, [], length, get_or, eqb}
-use Rattle.tables.specs.Lists.{tab}
+use Rattle.std.specs.Prelude.{◌≡◌, ℕ, ◌*◌, ◌<◌, Bool, true, false, cond, ◌&&◌, ◌||◌, List, [], length, get_or}
 use Rattle.pctl.specs.Table.{record_at, formulas, formulas_sized}
 use Rattle.pctl.specs.Lower.{Lower}
 use Rattle.pctl.specs.Written.{formula_bytes}
 use Rattle.nodes.specs.Nodes.{ask_size_lem, node_size, ask_of, nodes, node_at, sequent_at}
 use Rattle.nodes.specs.Written.{node_bytes}
-use Rattle.compact_tables.specs.Reached.{names, reached}
+use Rattle.compact_tables.specs.Reached.{names}
 use Rattle.compact_tables.specs.Tables.{record_by, node_by}
 
 -- ---- what the tables of an accepted tree are
@@ -27,24 +26,18 @@ pub record Ready (ask F tree : List ℕ) : Type 0 where
 
 -- ---- marks
 
--- a mark
-unfoldable pub flag : Bool → ℕ
-flag b = cond b 1 0
-
-unfoldable pub mark_of : List ℕ → (f k : ℕ) → ℕ
-mark_of F f k = flag (reached F f k)
+-- the marks of the records that pass a test
+pub record Marks (p : ℕ → Bool) (marks : List Bool) : Type 0 where
+  pub whole : length marks ≡ 256
+  pub each : (k : ℕ) → k < 256 → get_or marks k false ≡ p k
 
 -- entry k is marked
-unfoldable pub is_marked : List ℕ → ℕ → Bool
-is_marked marks k = eqb (get_or marks k 0) 1
-
-unfoldable pub counted : ℕ → ℕ
-counted mark = flag (eqb mark 1)
+unfoldable pub is_marked : List Bool → ℕ → Bool
+is_marked marks k = get_or marks k false
 
 -- the operands of record i are marked too, where it is marked: of marks by any test
-unfoldable pub Marked : (F : List ℕ) (i : ℕ) (before after : List ℕ) → Type 0
-Marked F i before after =
-    (p : ℕ → Bool) → before ≡ tab (λ k. flag (p k)) 256 → after ≡ tab (λ k. flag (p k || (p i && names F i k))) 256
+unfoldable pub Marked : (F : List ℕ) (i : ℕ) (before after : List Bool) → Type 0
+Marked F i before after = (p : ℕ → Bool) → Marks p before → Marks (λ k. p k || (p i && names F i k)) after
 
 -- ---- new numbers
 
@@ -53,7 +46,7 @@ abbrev pub at : List ℕ → ℕ → ℕ
 at numbers k = get_or numbers k 0
 
 -- record k by the marks and the new numbers
-unfoldable pub kept_by : (F marks numbers : List ℕ) → ℕ → List ℕ
+unfoldable pub kept_by : (F : List ℕ) → (marks : List Bool) → (numbers : List ℕ) → ℕ → List ℕ
 kept_by F marks numbers k = cond (is_marked marks k) (formula_bytes (record_by (at numbers) (record_at F k))) []
 
 -- node k by the new numbers

@@ -23,35 +23,6 @@ ghost use Rattle.join.specs.Joint as nets;
 ghost use Rattle.join.specs.Answer as joining;
 ghost use Rattle.join.specs.Theorem as joints;
 
-use checker::Verdict;
-
-// The tree check's answer in document 01's numbers: 0 where granted; the record, the node or the number of nodes.
-#[derive(Drop)]
-struct Numbers {
-    number: u32,
-    place: u64,
-}
-
-// The tree check's number and place.
-fn verdict_numbers(v: Verdict) -> Numbers
-    ensures { (result.number ≡ (outcomes.verdict v).number) × (result.place ≡ (outcomes.verdict v).place) }
-{
-    match v {
-        Verdict::Accepted(nodes) => Numbers {
-            number: 0,
-            place: nodes as u64,
-        },
-        Verdict::Refused(number, record) => Numbers {
-            number: number as u32,
-            place: record as u64,
-        },
-        Verdict::Broken(fault, node) => Numbers {
-            number: fault as u32,
-            place: node as u64,
-        },
-    }
-}
-
 // Checks a tree: 0 with the number of nodes, a refusal with its record, or a fault with its node. At 0 the ask's claim is true.
 #[unsafe(no_mangle)]
 pub extern "C" fn desk_check(
@@ -64,7 +35,7 @@ pub extern "C" fn desk_check(
     ensures answer { let o = outcomes.check_outcome ask.now net.now formulas.now tree.now in (result ≡ o.number) × (place.new ≡ o.place) }
     ensures claim { result ≡ 0 → demand.AskClaim ask.now net.now formulas.now }
 {
-    let outcome = verdict_numbers(checker::check(ask, net, formulas, tree));
+    let outcome = checker::verdict_numbers(checker::check(ask, net, formulas, tree));
     *place = outcome.place;
     outcome.number
 }

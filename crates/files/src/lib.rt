@@ -9,48 +9,39 @@ use std::fs;
 use std::io::Read;
 use std::rt::{Env, Files};
 
-// What reading a file gives: so many bytes at the start of the buffer, or that it cannot be read or fills the buffer.
-#[derive(Clone, Copy)]
-pub enum Got {
-    Whole(usize),
-    Unread,
-}
+// Room for a file of at most 64,000 bytes: a longer one fills it.
+pub const ROOM: usize = 64001;
 
-// A buffer of zeros for a file of at most 64,000 bytes: a longer one fills it.
-pub fn room() -> [u8; 64001]
-    ensures zeros { result ≡ replicate 64001 0 }
-    ensures size { 64001 ≡ length result }
+// A buffer of zeros.
+pub fn zeros<const N: usize>() -> [u8; N]
+    ensures zeros { result ≡ replicate N 0 }
+    ensures size { N ≡ length result }
 {
-    [0; 64001]
+    [0; N]
 }
 
-// Reads to the file's end. A folder opens, and its first read fails.
-fn read_to_end<F: Read>(file: &mut F, buf: &mut [u8]) -> Got
+// Reads to the file's end: so many bytes at the start of the buffer, or none where it cannot be read or fills the buffer. A folder opens, and
+// its first read fails. What is counted is what each read gave, so no `for`; std's `read_to_end` needs a heap.
+fn read_to_end<F: Read>(file: &mut F, buf: &mut [u8]) -> Option<usize>
     ensures { FileRead buf.new result }
 {
     let mut n: usize = 0;
     while n < buf.len() {
-        let Ok(more) = file.read(&mut buf[n..]) else {
-            return Got::Unread;
-        };
+        let more = file.read(&mut buf[n..]).ok()?;
         if more == 0 {
-            return Got::Whole(n);
+            return Some(n);
         }
         n += more;
     }
-    Got::Unread
+    None
 }
 
 // Reads the file at a path. One that is not UTF-8 is no file's, as std opens none there.
-pub fn read_path(rt: &impl Files, path: &[u8], buf: &mut [u8]) -> Got
+pub fn read_path(rt: &impl Files, path: &[u8], buf: &mut [u8]) -> Option<usize>
     ensures { FileRead buf.new result }
 {
-    let Ok(path) = str::from_utf8(path) else {
-        return Got::Unread;
-    };
-    let Ok(mut file) = fs::open(rt, path) else {
-        return Got::Unread;
-    };
+    let path = str::from_utf8(path).ok()?;
+    let mut file = fs::open(rt, path).ok()?;
     read_to_end(&mut file, buf)
 }
 
@@ -67,12 +58,10 @@ pub fn argument(rt: &impl Env, i: usize, buf: &mut [u8]) -> Option<usize>
 }
 
 // Reads the file that an argument names. One that is too long for a path is no file's: its length comes as 0, and the empty path is refused.
-pub fn read_argument(rt: &(impl Env + Files), i: usize, buf: &mut [u8]) -> Got
+pub fn read_argument(rt: &(impl Env + Files), i: usize, buf: &mut [u8]) -> Option<usize>
     ensures { FileRead buf.new result }
 {
     let mut path = [0u8; 4096];
-    let Some(size) = argument(rt, i, &mut path) else {
-        return Got::Unread;
-    };
+    let size = argument(rt, i, &mut path)?;
     read_path(rt, &path[..size], buf)
 }

@@ -14,14 +14,14 @@ use Rattle.tables.proofs.Scans.{or_first, or_second}
 use Rattle.bitset.specs.Sets.{union, shifted}
 use Rattle.stores.proofs.Stores.{after, sets_front}
 use Rattle.net.specs.declared.Refusal.{Refusal}
-use Rattle.net.specs.declared.Checked.TheVariants.{Refused as Bad}
 use Rattle.net.specs.Table.{transitions}
-use Rattle.net.specs.Answer.{Fault, no_fault, fault, or_else, refusal, checked}
+use Rattle.net.specs.Answer.{Fault, no_fault, fault, or_else, refusal}
 use Rattle.net.proofs.Answers.{refusal_number}
-use Rattle.join.specs.declared.Joined.TheVariants.{Done, Refused, Large, Short}
+use Rattle.std.proofs.Common.{Ok, Err}
+use Rattle.join.specs.declared.JoinRefusal.TheVariants.{Half, Large, Short}
 use Rattle.join.specs.Joint.{Marked, beside, shifted_record, joint}
 use Rattle.join.specs.Answer.{Answer, refuse, granted, half_fault, size_fault, room_fault, join_fault, join_answer}
-use Rattle.join.specs.Result.{numbers_of, answer_of}
+use Rattle.join.specs.Result.{fault_of, numbers_of, answer_of}
 use Rattle.join.proofs.Fitting.{joint_length}
 
 module _ (f s : Marked) (room : List ℕ) where
@@ -35,13 +35,13 @@ module _ (f s : Marked) (room : List ℕ) where
 
   -- ---- the halves
 
-  pub refused_first : (r : Refusal) → checked (Bad r) ≡ half_fault f → answer_of (Refused r) room ≡ join_answer f s room
-  unfolding answer_of numbers_of join_fault checked
+  pub refused_first : (r : Refusal) → refusal r ≡ half_fault f → answer_of (Err (Half r)) room ≡ join_answer f s room
+  unfolding answer_of numbers_of fault_of join_fault
   refused_first r e = faulty (refusal r) (or_first (refusal r) (half_fault f) _ e (refusal_number r)) (refusal_number r)
 
   module _ (p : half_fault f ≡ no_fault) where
-    pub refused_second : (r : Refusal) → checked (Bad r) ≡ half_fault s → answer_of (Refused r) room ≡ join_answer f s room
-    unfolding answer_of numbers_of join_fault checked
+    pub refused_second : (r : Refusal) → refusal r ≡ half_fault s → answer_of (Err (Half r)) room ≡ join_answer f s room
+    unfolding answer_of numbers_of fault_of join_fault
     refused_second r e =
         faulty (refusal r) (or_second (half_fault f) _ (refusal r) (sym p) (or_first (refusal r) (half_fault s) _ e (refusal_number r)))
         (refusal_number r)
@@ -53,16 +53,16 @@ module _ (f s : Marked) (room : List ℕ) where
       unfolding join_fault
       later x e = or_second (half_fault f) _ x (sym p) (or_second (half_fault s) _ x (sym q) e)
 
-      pub refused-large : size_fault f s ≡ fault 15 0 → answer_of Large room ≡ join_answer f s room
-      unfolding answer_of numbers_of
+      pub refused-large : size_fault f s ≡ fault 15 0 → answer_of (Err Large) room ≡ join_answer f s room
+      unfolding answer_of numbers_of fault_of
       refused-large e = faulty (fault 15 0) (later (fault 15 0) (or_first (fault 15 0) (size_fault f s) (room_fault f s room) (sym e) refl)) refl
 
       module _ (z : size_fault f s ≡ no_fault) where
         last : (x : Fault) → x ≡ room_fault f s room → x ≡ join_fault f s room
         last x e = later x (or_second (size_fault f s) (room_fault f s room) x (sym z) e)
 
-        pub refused_short : length room < length f.bytes + length s.bytes → answer_of Short room ≡ join_answer f s room
-        unfolding answer_of numbers_of room_fault
+        pub refused_short : length room < length f.bytes + length s.bytes → answer_of (Err Short) room ≡ join_answer f s room
+        unfolding answer_of numbers_of fault_of room_fault
         refused_short h =
             faulty (fault 12 0)
             (last (fault 12 0)
@@ -81,7 +81,7 @@ module _ (f s : Marked) (room : List ℕ) where
             → shift ≡ shifted f.places s.marking → marking ≡ union f.marking shift
             → r₁ ≡ sets room 0 (take (length f.bytes) (drop 0 f.bytes))
             → r₂ ≡ sets r₁ (length f.bytes) (laid (shifted_record f.places s.bytes) (transitions s.bytes))
-            → answer_of (Done (f.places + s.places) marking (length f.bytes + length s.bytes)) r₂ ≡ join_answer f s room
+            → answer_of (Ok (record { places = f.places + s.places; marking = marking; length = length f.bytes + length s.bytes })) r₂ ≡ join_answer f s room
         unfolding answer_of numbers_of join_answer answered joint beside
         joins {marking} {shift} {r₁} {r₂} h a b c d =
             ap₂ (λ (m : ℕ) (r : List ℕ). told m (length f.bytes + length s.bytes) r) (b ∙ ap (union f.marking) a) stored

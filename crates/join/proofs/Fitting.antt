@@ -1,14 +1,15 @@
 -- Two nets that loading finds no fault in and that fit into one: bounds, and the length of the joint records. Assumes nothing.
 use mathlib.Core.Path.{◌≡◌, refl, ap, ◌∙◌}
-use mathlib.Core.Bool.{Bool, true, false, cond, ◌&&◌}
+use mathlib.Core.Bool.{Bool, true, false, cond, ◌&&◌, and-false}
+use mathlib.Core.Logic.{◌⊎◌, inl, inr}
 use Prim.Native.Nat.{ℕ, ◌+◌, ◌/◌, ◌^◌, ◌≤◌, ◌<◌}
 use native.Mathlib.Nat.{le_refl}
 use native.Mathlib.Omega.{arith}
 use lib.ListN.{length, length-append}
 use lib.Dec.{leb}
-use borrow.Author.Tests.{leb-true}
+use borrow.Author.Tests.{leb-true, le-leb, lt-leb}
 use Rattle.tables.specs.Lists.{laid}
-use Rattle.tables.proofs.Tests.{and_left, and_right}
+use Rattle.tables.proofs.Tests.{and_left, and_right, and_intro, if_true, if_false}
 use Rattle.bitset.specs.Sets.{within, shifted}
 use Rattle.bitset.proofs.Shifts.{shifted_fits}
 use Rattle.net.specs.Table.{transitions}
@@ -31,6 +32,21 @@ few_records h e = (half_has h e).most
 -- two such halves have at most 128 places
 pub few_places : (f s : Marked) → half_fault f ≡ no_fault → half_fault s ≡ no_fault → f.places + s.places ≤ 128
 few_places f s p q = omega (arith, (half_has f p).places_most, (half_has s q).places_most)
+
+-- 15 is that one of the two sums is above 64
+module _ (f s : Marked) where
+  abbrev places_fit : Bool
+  places_fit = leb (f.places + s.places) 64
+
+  pub size_fits : f.places + s.places ≤ 64 → transitions f.bytes + transitions s.bytes ≤ 64 → size_fault f s ≡ no_fault
+  unfolding size_fault
+  size_fits p q = if_true _ no_fault (fault 15 0) (and_intro places_fit _ (le-leb _ 64 p) (le-leb _ 64 q))
+
+  pub size_large : (64 < f.places + s.places) ⊎ ((f.places + s.places ≤ 64) × (64 < transitions f.bytes + transitions s.bytes)) → size_fault f s ≡ fault 15 0
+  unfolding size_fault
+  size_large (inl h) =
+      if_false _ no_fault (fault 15 0) (ap (λ b. b && leb (transitions f.bytes + transitions s.bytes) 64) (lt-leb _ 64 h))
+  size_large (inr h) = if_false _ no_fault (fault 15 0) (ap (λ b. places_fit && b) (lt-leb _ 64 h.1) ∙ and-false places_fit)
 
 -- without 15 both sums are at most 64
 pub size_test : (f s : Marked) → (size_fault f s).number ≡ 0

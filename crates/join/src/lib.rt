@@ -10,21 +10,37 @@ ghost use Rattle.join.specs.Joint as joint;
 ghost use Rattle.join.specs.Answer as answers;
 ghost use Rattle.join.specs.Result as results;
 ghost use Rattle.join.specs.Serving as serving;
+ghost use Rattle.join.specs.declared.JoinRefusal.TheVariants.{Half as OfHalf};
 
-use net::{Checked, RECORD, Refusal};
+use net::{RECORD, Refusal};
 
-// The answer: the joint places, the joint marking and the bytes of the joint records; or why the nets are not joined. `numbers_of` of specs/ has the
-// documents' numbers: what loading one of the halves meets, the first before the second (1, 2, 3, 7), places or transitions that add up to more
-// than 64 (15), a room that is shorter than the records (12).
+// The joint net: its places, its marking and the bytes of its records.
 #[derive(Clone, Copy)]
-pub enum Joined {
-    Done(u32, u64, usize),
-    Refused(Refusal),
+pub struct Joint {
+    pub places: u32,
+    pub marking: u64,
+    pub length: usize,
+}
+
+// Why the nets are not joined: what loading one of the halves meets, the first before the second (1, 2, 3, 7), places or transitions that add up to
+// more than 64 (15), a room that is shorter than the records (12). `numbers_of` of specs/ has the documents' numbers.
+#[derive(Clone, Copy)]
+pub enum JoinRefusal {
+    Half(Refusal),
     Large,
     Short,
 }
 
-// An answer in the documents' numbers: 0 where granted; the record as its place; the joint places, marking and bytes of the records, 0 where refused.
+impl From<Refusal> for JoinRefusal {
+    ghost from_gives = { λ refusal why. why ≡ OfHalf refusal };
+
+    fn from(refusal: Refusal) -> JoinRefusal {
+        JoinRefusal::Half(refusal)
+    }
+}
+
+// An answer in the documents' numbers, for the C interface: 0 where granted; the record as its place; the joint places, marking and bytes of the
+// records, 0 where refused.
 #[derive(Clone, Copy)]
 pub struct Numbers {
     pub number: u32,
@@ -34,9 +50,18 @@ pub struct Numbers {
     pub length: u64,
 }
 
+// A net with its marking, as it is handed over.
+#[derive(Clone, Copy)]
+struct Half<'a> {
+    places: u32,
+    marking: u64,
+    table: &'a [u8],
+}
+
 // ---- the joint records
 
-// Puts record t of the second half at an offset of the room, its sets shifted by the first's places.
+// Puts record t of the second half at an offset of the room, its sets shifted by the first's places. Number and offset stay: they are how
+// `shifted_record` of specs/ names a record, and a slice of each side would be no plainer.
 fn put_record(places: u32, second: &[u8], t: usize, room: &mut [u8], at: usize)
     requires { serving.Fits places second.now × (t * transition_size + transition_size ≤ length second.now) × (at + transition_size ≤ length room.old) }
     ensures { room.new ≡ sets room.old at (joint.shifted_record places second.now t) }
@@ -56,58 +81,43 @@ fn put_records(places: u32, second: &[u8], room: &mut [u8], at: usize)
     requires { serving.Fits places second.now × (at + length second.now ≤ length room.old) }
     ensures { room.new ≡ sets room.old at (laid (joint.shifted_record places second.now) (transitions second.now)) }
 {
-    let count = second.len() / RECORD;
-    let mut t: usize = 0;
-    while t < count {
+    for t in 0..second.len() / RECORD {
         put_record(places, second, t, room, at + t * RECORD);
-        t += 1;
     }
 }
 
-// ---- the answer, where the first half has p places and the marking a, the second q places and the marking b
+// ---- the answer
 
-// Joins two nets that loading finds no fault in and that fit into one, where the room is long enough.
-fn join_fitting(
-    p: u32,
-    a: u64,
-    first: &[u8],
-    q: u32,
-    b: u64,
-    second: &[u8],
-    room: &mut [u8],
-) -> Joined
-    requires { let f = joint.marked p a first.now in let s = joint.marked q b second.now in (answers.half_fault f ≡ no_fault) × (answers.half_fault s ≡ no_fault) × (answers.size_fault f s ≡ no_fault) }
-    ensures { results.answer_of result room.new ≡ answers.join_answer (joint.marked p a first.now) (joint.marked q b second.now) room.old }
+// Joins two halves that loading finds no fault in and that fit into one net, where the room is long enough.
+fn join_fitting(first: Half, second: Half, room: &mut [u8]) -> Result<Joint, JoinRefusal>
+    requires { let f = serving.marked_by first in let s = serving.marked_by second in (answers.half_fault f ≡ no_fault) × (answers.half_fault s ≡ no_fault) × (answers.size_fault f s ≡ no_fault) }
+    ensures { results.answer_of result room.new ≡ answers.join_answer (serving.marked_by first.entry) (serving.marked_by second.entry) room.old }
 {
-    let size = first.len() + second.len();
-    if room.len() < size {
-        return Joined::Short;
+    let length = first.table.len() + second.table.len();
+    if room.len() < length {
+        return Err(JoinRefusal::Short);
     }
-    let marking = bitset::union(a, bitset::shift(b, p));
-    stores::copy(first, 0, room, 0, first.len());
-    put_records(p, second, room, first.len());
-    Joined::Done(p + q, marking, size)
+    let places = first.places + second.places;
+    let marking = bitset::union(first.marking, bitset::shift(second.marking, first.places));
+    stores::copy(first.table, 0, room, 0, first.table.len());
+    put_records(first.places, second.table, room, first.table.len());
+    Ok(Joint {
+        places,
+        marking,
+        length,
+    })
 }
 
-// Joins two nets that loading finds no fault in.
-fn join_loaded(
-    p: u32,
-    a: u64,
-    first: &[u8],
-    q: u32,
-    b: u64,
-    second: &[u8],
-    room: &mut [u8],
-) -> Joined
-    requires { (answers.half_fault (joint.marked p a first.now) ≡ no_fault) × (answers.half_fault (joint.marked q b second.now) ≡ no_fault) }
-    ensures { results.answer_of result room.new ≡ answers.join_answer (joint.marked p a first.now) (joint.marked q b second.now) room.old }
+// Joins two halves that loading finds no fault in.
+fn join_loaded(first: Half, second: Half, room: &mut [u8]) -> Result<Joint, JoinRefusal>
+    requires { (answers.half_fault (serving.marked_by first) ≡ no_fault) × (answers.half_fault (serving.marked_by second) ≡ no_fault) }
+    ensures { results.answer_of result room.new ≡ answers.join_answer (serving.marked_by first.entry) (serving.marked_by second.entry) room.old }
 {
-    let first_count = (first.len() / RECORD) as u32;
-    let second_count = (second.len() / RECORD) as u32;
-    if (p + q <= 64) & (first_count + second_count <= 64) {
-        return join_fitting(p, a, first, q, b, second, room);
+    let transitions = first.table.len() / RECORD + second.table.len() / RECORD;
+    if first.places + second.places > 64 || transitions > 64 {
+        return Err(JoinRefusal::Large);
     }
-    Joined::Large
+    join_fitting(first, second, room)
 }
 
 // Sets two nets with their markings side by side: the joint records stand at the start of the room, whose other bytes stay. The first half's 1, 2,
@@ -120,32 +130,38 @@ pub fn join(
     second_marking: u64,
     second: &[u8],
     room: &mut [u8],
-) -> Joined
+) -> Result<Joint, JoinRefusal>
     ensures { results.answer_of result room.new ≡ answers.join_answer (joint.marked first_places first_marking first.now) (joint.marked second_places second_marking second.now) room.old }
 {
-    if let Checked::Refused(why) = net::check_load(first_places, first_marking, first) {
-        return Joined::Refused(why);
-    }
-    if let Checked::Refused(why) = net::check_load(second_places, second_marking, second) {
-        return Joined::Refused(why);
-    }
-    join_loaded(
-        first_places,
-        first_marking,
-        first,
-        second_places,
-        second_marking,
-        second,
-        room,
-    )
+    net::check_load(first_places, first_marking, first)?;
+    net::check_load(second_places, second_marking, second)?;
+    let first = Half {
+        places: first_places,
+        marking: first_marking,
+        table: first,
+    };
+    let second = Half {
+        places: second_places,
+        marking: second_marking,
+        table: second,
+    };
+    join_loaded(first, second, room)
 }
 
 // ---- the answer in numbers
 
-// A refusal's number and record, with no joint net.
-fn refused(number: u32, place: u64) -> Numbers
-    ensures { result ≡ record { number = number; place = place; places = 0; marking = 0; length = 0 } }
+// The numbers of a refusal, with no joint net.
+fn refused(refusal: JoinRefusal) -> Numbers
+    ensures { result ≡ results.refused_by (results.fault_of refusal) }
 {
+    let (number, place) = match refusal {
+        JoinRefusal::Half(why) => {
+            let said = net::refusal_numbers(why);
+            (said.number, said.place)
+        }
+        JoinRefusal::Large => (15, 0),
+        JoinRefusal::Short => (12, 0),
+    };
     Numbers {
         number,
         place,
@@ -156,22 +172,17 @@ fn refused(number: u32, place: u64) -> Numbers
 }
 
 // The numbers of an answer.
-pub fn join_numbers(j: Joined) -> Numbers
-    ensures { result ≡ results.numbers_of j }
+pub fn join_numbers(answer: Result<Joint, JoinRefusal>) -> Numbers
+    ensures { result ≡ results.numbers_of answer }
 {
-    match j {
-        Joined::Done(places, marking, length) => Numbers {
+    match answer {
+        Ok(joint) => Numbers {
             number: 0,
             place: 0,
-            places,
-            marking,
-            length: length as u64,
+            places: joint.places,
+            marking: joint.marking,
+            length: joint.length as u64,
         },
-        Joined::Refused(why) => {
-            let said = net::refusal_numbers(why);
-            refused(said.number, said.place)
-        }
-        Joined::Large => refused(15, 0),
-        Joined::Short => refused(12, 0),
+        Err(refusal) => refused(refusal),
     }
 }

@@ -1,11 +1,12 @@
 // The line that the program `treecheck` writes, put into a buffer.
 #![tactic(auto)]
 
+ghost use Rattle.std.specs.Prelude.{Err};
 ghost use Rattle.checker.specs.Outcomes as outcomes;
 ghost use Rattle.texts.specs.Line as texts;
 ghost use Rattle.line.specs.Line as lines;
 
-use checker::Verdict;
+use checker::Rejection;
 
 // The four files that the program reads.
 #[derive(Clone, Copy)]
@@ -25,14 +26,28 @@ fn put_accepted(line: &mut [u8; 40], nodes: usize) -> usize
     texts::put_word(line, at, b"\n")
 }
 
+// The line of a tree that is not accepted: refused where the input checks find a fault, broken where a node fails.
+fn put_rejected(line: &mut [u8; 40], why: Rejection) -> usize
+    ensures { texts.Put line.old line.new 0 (lines.line_of (outcomes.verdict (Err why))) result }
+{
+    match why {
+        Rejection::Input(fault) => {
+            let n = checker::input_numbers(fault);
+            texts::put_placed(line, b"refused ", n.number as u8, n.place as usize)
+        }
+        Rejection::Node(fault, node) => {
+            texts::put_placed(line, b"broken ", fault.number() as u8, node)
+        }
+    }
+}
+
 // Writes the line of the check's answer at the start of the buffer, whose other bytes stay, and answers its length.
-pub fn write_line(v: Verdict, line: &mut [u8; 40]) -> usize
+pub fn write_line(v: Result<usize, Rejection>, line: &mut [u8; 40]) -> usize
     ensures { texts.Put line.old line.new 0 (lines.line_of (outcomes.verdict v)) result }
 {
     match v {
-        Verdict::Accepted(nodes) => put_accepted(line, nodes),
-        Verdict::Refused(number, record) => texts::put_placed(line, b"refused ", number, record),
-        Verdict::Broken(fault, node) => texts::put_placed(line, b"broken ", fault, node),
+        Ok(nodes) => put_accepted(line, nodes),
+        Err(why) => put_rejected(line, why),
     }
 }
 

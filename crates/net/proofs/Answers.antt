@@ -20,11 +20,28 @@ use Rattle.tables.proofs.Entries.{get_d_up_to}
 use Rattle.net.specs.declared.Net.{Net}
 use Rattle.net.specs.declared.Refusal.{Refusal}
 use Rattle.net.specs.declared.Refusal.TheVariants.{Places, Size, Record, Marking, Absent, Disabled}
-use Rattle.net.specs.declared.Checked.TheVariants.{Good, Refused as Bad}
+use Rattle.std.proofs.Common.{Result, Ok, Err}
+use Rattle.tables.specs.declared.TableFault.{TableFault}
+use Rattle.tables.specs.declared.TableFault.TheVariants.{Size as TableSize, Record as TableRecord}
+use Rattle.tables.specs.Checks.{checked as records_checked, told, answered}
+use Rattle.tables.proofs.Checks.{checked_fault}
 use Rattle.net.specs.Step.{pre_of, post_of, action_of, enabled_by, missing_by, occupied_by, fired_by, missing, occupied, fired}
 use Rattle.net.specs.Table.{pre_at, post_at, action_at, optional_at, transitions, net_of, places_good, table_sized, record_bad}
-use Rattle.net.specs.Answer.{Fault, no_fault, fault, Answer, refuse, grant, disabled_by, refused, refusal, checked, or_else, table_fault, load_fault, disabled, step_answer, firing}
+use Rattle.net.specs.Answer.{Fault, no_fault, fault, Answer, refuse, grant, disabled_by, refused, refusal, of_table, checked, or_else, table_fault, load_fault, disabled, step_answer, firing}
 use Rattle.net.proofs.Loops.{enabled_in}
+
+-- ---- 2 and 3
+
+-- the check of the table's records has the table's fault
+pub table_checked : (places : ℕ) (bytes : List ℕ) {r : Result ℕ TableFault} → r ≡ records_checked 24 1 64 (record_bad places bytes) (length bytes)
+    → answered 2 3 r ≡ table_fault places bytes
+unfolding table_fault
+table_checked places bytes e = ap (answered 2 3) e ∙ checked_fault 24 1 64 (record_bad places bytes) (length bytes) 2 3
+
+pub table_told : (f : TableFault) → checked (Err (of_table f)) ≡ told 2 3 f
+unfolding checked refused told
+table_told TableSize = refl
+table_told (TableRecord r) = refl
 
 -- ---- 1 and 7
 
@@ -60,8 +77,8 @@ module _ (places m : ℕ) (bytes : List ℕ) where
   unfolding load_fault rest
   placed h = ap (λ b. cond b rest (fault 1 0)) (not-false (places_good places) h)
 
-  pub load_table : not (places_good places) ≡ false → (r : Refusal) → checked (Bad r) ≡ table_fault places bytes
-      → checked (Bad r) ≡ load_fault places m bytes
+  pub load_table : not (places_good places) ≡ false → (r : Refusal) → checked (Err r) ≡ table_fault places bytes
+      → checked (Err r) ≡ load_fault places m bytes
   unfolding rest checked
   load_table h r e =
       sym
@@ -69,15 +86,15 @@ module _ (places m : ℕ) (bytes : List ℕ) where
       ∙ ap (λ f. or_else f (cond (within places m) no_fault (fault 7 0))) (sym e)
       ∙ ap (λ b. cond b (cond (within places m) no_fault (fault 7 0)) (refusal r)) (refusal_number r))
 
-  loaded : not (places_good places) ≡ false → checked Good ≡ table_fault places bytes → load_fault places m bytes ≡ cond (within places m) no_fault (fault 7 0)
+  loaded : not (places_good places) ≡ false → checked (Ok tt) ≡ table_fault places bytes → load_fault places m bytes ≡ cond (within places m) no_fault (fault 7 0)
   unfolding rest checked
   loaded h e = placed h ∙ ap (λ f. or_else f (cond (within places m) no_fault (fault 7 0))) (sym e)
 
-  pub load_good : not (places_good places) ≡ false → checked Good ≡ table_fault places bytes → within places m ≡ true
+  pub load_good : not (places_good places) ≡ false → checked (Ok tt) ≡ table_fault places bytes → within places m ≡ true
       → no_fault ≡ load_fault places m bytes
   load_good h e w = sym (loaded h e ∙ ap (λ b. cond b no_fault (fault 7 0)) w)
 
-  pub load_marking : not (places_good places) ≡ false → checked Good ≡ table_fault places bytes → within places m ≡ false
+  pub load_marking : not (places_good places) ≡ false → checked (Ok tt) ≡ table_fault places bytes → within places m ≡ false
       → fault 7 0 ≡ load_fault places m bytes
   load_marking h e w = sym (loaded h e ∙ ap (λ b. cond b no_fault (fault 7 0)) w)
 
@@ -125,7 +142,7 @@ module _ (places m : ℕ) (bytes : List ℕ) where
       (λ e. omega (arith, e))
 
   -- so what it meets comes without sets
-  pub load_plain : (r : Refusal) → checked (Bad r) ≡ load_fault places m bytes → refused r ≡ refuse (load_fault places m bytes)
+  pub load_plain : (r : Refusal) → checked (Err r) ≡ load_fault places m bytes → refused r ≡ refuse (load_fault places m bytes)
   unfolding checked
   load_plain r e = refused_plain r (λ h. load_other (ap (λ f. f.number) (sym e) ∙ h)) ∙ ap refuse e
 
@@ -171,11 +188,11 @@ step_in N m t h =
     ∙ ap (λ b. cond b (grant (fired N m t)) (disabled N m t)) (enabled_in N m t h)
 
 module _ (places m : ℕ) (bytes : List ℕ) (t : ℕ) where
-  pub fire_refused : (r : Refusal) → checked (Bad r) ≡ load_fault places m bytes → refused r ≡ firing places m bytes t
+  pub fire_refused : (r : Refusal) → checked (Err r) ≡ load_fault places m bytes → refused r ≡ firing places m bytes t
   unfolding firing checked
   fire_refused r e = load_plain places m bytes r e ∙ sym (if_false _ _ _ (ap (λ f. eqb f.number 0) (sym e) ∙ refusal_number r))
 
-  module _ (e : checked Good ≡ load_fault places m bytes) where
+  module _ (e : checked (Ok tt) ≡ load_fault places m bytes) where
     stepped : firing places m bytes t ≡ step_answer (net_of places bytes) m t
     unfolding firing checked
     stepped = ap (λ f. cond (eqb f.number 0) (step_answer (net_of places bytes) m t) (refuse f)) (sym e)

@@ -1,4 +1,6 @@
 // The ask and the nodes, read from their bytes.
+// The readers, the links and the trail take a table and a number, and no type that holds both: a narrower type would ask more of their callers,
+// who have the bytes, as the C interface has.
 ghost use Rattle.std.specs.Prelude.{◌≡◌, ◌+◌, ◌*◌, ◌≤◌, length};
 ghost use Rattle.nodes.specs.Nodes as nodes;
 
@@ -15,11 +17,9 @@ pub fn ask_of(ask: &[u8]) -> Ask
     requires { nodes.ask_size_lem ≤ length ask.now }
     ensures { result ≡ nodes.ask_of ask.now }
 {
-    let marking = tables::u64_at(ask, 0);
-    let formula = tables::u16_at(ask, 8);
     Ask {
-        marking,
-        formula,
+        marking: tables::u64_at(ask, 0),
+        formula: tables::u16_at(ask, 8),
         places: ask[10],
         side: ask[11],
     }
@@ -31,15 +31,11 @@ pub fn sequent_at(tree: &[u8], k: usize) -> Sequent
     ensures { result ≡ nodes.sequent_at tree.now k }
 {
     let at = k * NODE;
-    let marking = tables::u64_at(tree, at);
-    let anchor = tables::u64_at(tree, at + 8);
-    let kept = tables::u64_at(tree, at + 16);
-    let formula = tables::u16_at(tree, at + 32);
     Sequent {
-        marking,
-        anchor,
-        kept,
-        formula,
+        marking: tables::u64_at(tree, at),
+        anchor: tables::u64_at(tree, at + 8),
+        kept: tables::u64_at(tree, at + 16),
+        formula: tables::u16_at(tree, at + 32),
         side: tree[at + 36],
         phase: tree[at + 37],
         round: tree[at + 38],
@@ -52,13 +48,10 @@ pub fn node_at(tree: &[u8], k: usize) -> Node
     ensures { result ≡ nodes.node_at tree.now k }
 {
     let at = k * NODE;
-    let sequent = sequent_at(tree, k);
-    let parent = tables::u32_at(tree, at + 24);
-    let first = tables::u32_at(tree, at + 28);
     Node {
-        sequent,
-        parent,
-        first,
+        sequent: sequent_at(tree, k),
+        parent: tables::u32_at(tree, at + 24),
+        first: tables::u32_at(tree, at + 28),
         children: tree[at + 34],
         rule: tree[at + 35],
         transition: tree[at + 39],

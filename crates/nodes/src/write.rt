@@ -1,40 +1,17 @@
 // Node records and the ask, put into lent room.
-ghost use Rattle.std.specs.Prelude.{◌≡◌, ◌++◌, ◌+◌, ◌*◌, ◌≤◌, length};
+ghost use Rattle.std.specs.Prelude.{◌≡◌, ◌+◌, ◌*◌, ◌≤◌, length};
 ghost use Rattle.std.proofs.lemmas.List.Edits.{sets};
 ghost use Rattle.nodes.specs.Nodes as nodes;
 ghost use Rattle.nodes.specs.Written as written;
-ghost use Rattle.stores.specs.Low.{low_bytes};
 
 use crate::{Ask, Node, read};
 
-// Puts three numbers of 8 bytes: the marking, the anchor and the kept set of a node.
-fn put_sets(room: &mut [u8], at: usize, marking: u64, anchor: u64, kept: u64)
-    requires { at + 24 ≤ length room.old }
-    ensures { room.new ≡ sets room.old at (low_bytes 8 marking ++ (low_bytes 8 anchor ++ low_bytes 8 kept)) }
+// Puts bytes into the room, from an offset on.
+fn put(room: &mut [u8], at: usize, bytes: &[u8])
+    requires { at + length bytes.now ≤ length room.old }
+    ensures { room.new ≡ sets room.old at bytes.now }
 {
-    stores::put_bytes(room, at, 8, marking);
-    stores::put_bytes(room, at + 8, 8, anchor);
-    stores::put_bytes(room, at + 16, 8, kept);
-}
-
-// Puts the links of a node, and its formula.
-fn put_links(room: &mut [u8], at: usize, parent: u32, first: u32, formula: u16)
-    requires { at + 10 ≤ length room.old }
-    ensures { room.new ≡ sets room.old at (low_bytes 4 parent ++ (low_bytes 4 first ++ low_bytes 2 formula)) }
-{
-    stores::put_bytes(room, at, 4, parent as u64);
-    stores::put_bytes(room, at + 4, 4, first as u64);
-    stores::put_bytes(room, at + 8, 2, formula as u64);
-}
-
-// Puts three numbers of one byte.
-fn put_codes(room: &mut [u8], at: usize, x: u8, y: u8, z: u8)
-    requires { at + 3 ≤ length room.old }
-    ensures { room.new ≡ sets room.old at (low_bytes 1 x ++ (low_bytes 1 y ++ low_bytes 1 z)) }
-{
-    stores::put_bytes(room, at, 1, x as u64);
-    stores::put_bytes(room, at + 1, 1, y as u64);
-    stores::put_bytes(room, at + 2, 1, z as u64);
+    stores::copy(bytes, 0, room, at, bytes.len());
 }
 
 // Puts the record of node k.
@@ -44,10 +21,14 @@ pub fn put_node(room: &mut [u8], k: usize, n: Node)
 {
     let at = k * read::NODE;
     let s = n.sequent;
-    put_sets(room, at, s.marking, s.anchor, s.kept);
-    put_links(room, at + 24, n.parent, n.first, s.formula);
-    put_codes(room, at + 34, n.children, n.rule, s.side);
-    put_codes(room, at + 37, s.phase, s.round, n.transition);
+    put(room, at, &s.marking.to_le_bytes());
+    put(room, at + 8, &s.anchor.to_le_bytes());
+    put(room, at + 16, &s.kept.to_le_bytes());
+    put(room, at + 24, &n.parent.to_le_bytes());
+    put(room, at + 28, &n.first.to_le_bytes());
+    put(room, at + 32, &s.formula.to_le_bytes());
+    let codes = [n.children, n.rule, s.side, s.phase, s.round, n.transition];
+    put(room, at + 34, &codes);
 }
 
 // Puts the ask.
@@ -55,8 +36,7 @@ pub fn put_ask(room: &mut [u8], a: Ask)
     requires { nodes.ask_size_lem ≤ length room.old }
     ensures { room.new ≡ sets room.old 0 (written.ask_bytes a) }
 {
-    stores::put_bytes(room, 0, 8, a.marking);
-    stores::put_bytes(room, 8, 2, a.formula as u64);
-    stores::put_bytes(room, 10, 1, a.places as u64);
-    stores::put_bytes(room, 11, 1, a.side as u64);
+    put(room, 0, &a.marking.to_le_bytes());
+    put(room, 8, &a.formula.to_le_bytes());
+    put(room, 10, &[a.places, a.side]);
 }

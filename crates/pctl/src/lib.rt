@@ -3,22 +3,13 @@
 
 ghost use Rattle.std.specs.Prelude.{◌≡◌, ◌+◌, ◌*◌, ◌≤◌, ◌<◌, length};
 ghost use Rattle.std.proofs.lemmas.List.Edits.{sets};
-ghost use Rattle.tables.specs.Lists as lists;
 ghost use Rattle.pctl.specs.Table as table;
 ghost use Rattle.pctl.specs.Written as written;
 
-use tables::RecordCount;
+use tables::TableFault;
 
 // The bytes of a formula record.
 pub const RECORD: usize = 8;
-
-// What the input check of the table finds. `checked` of specs/ has document 01's numbers.
-#[derive(Clone, Copy)]
-pub enum Checked {
-    Good,
-    Size,
-    Record(usize),
-}
 
 // A formula record: the operator, the records of its operands, and the action. A field that the operator lacks is zero.
 #[derive(Clone, Copy)]
@@ -52,14 +43,15 @@ pub fn put_formula(room: &mut [u8], k: usize, r: FormulaRecord)
     ensures { room.new ≡ sets room.old (k * table.formula_size) (written.formula_bytes r) }
 {
     let at = k * RECORD;
-    stores::put_bytes(room, at, 1, r.operator as u64);
+    stores::put_bytes(room, at, 1, u64::from(r.operator));
     stores::put_bytes(room, at + 1, 1, 0);
-    stores::put_bytes(room, at + 2, 2, r.left as u64);
-    stores::put_bytes(room, at + 4, 2, r.right as u64);
-    stores::put_bytes(room, at + 6, 2, r.action as u64);
+    stores::put_bytes(room, at + 2, 2, u64::from(r.left));
+    stores::put_bytes(room, at + 4, 2, u64::from(r.right));
+    stores::put_bytes(room, at + 6, 2, u64::from(r.action));
 }
 
 // Whether an operator has a left operand.
+#[tactic(auto, unfolding(crate::specs::Table::has_left))]
 pub fn has_left(operator: u8) -> bool
     ensures { result ≡ table.has_left operator }
 {
@@ -67,6 +59,7 @@ pub fn has_left(operator: u8) -> bool
 }
 
 // Whether an operator has a right operand.
+#[tactic(auto, unfolding(crate::specs::Table::has_right))]
 pub fn has_right(operator: u8) -> bool
     ensures { result ≡ table.has_right operator }
 {
@@ -74,13 +67,15 @@ pub fn has_right(operator: u8) -> bool
 }
 
 // Whether an operand names a lower record, or is zero where the operator has no such operand.
+#[tactic(auto, unfolding(crate::specs::Table::operand_good))]
 fn operand_good(has: bool, i: usize, operand: u16) -> bool
     ensures { result ≡ table.operand_good has i operand }
 {
     if has {
-        return (operand as usize) < i;
+        usize::from(operand) < i
+    } else {
+        operand == 0
     }
-    operand == 0
 }
 
 // Whether record i has an operator above 5, a spare field that is not zero or an operand that is not lower.
@@ -96,31 +91,10 @@ fn record_bad(formulas: &[u8], i: usize) -> bool
     !((op <= 5) & (spare == 0) & left & right & ((op == 3) | (f.action == 0)))
 }
 
-// The lowest record at fault, or count where there is none.
-fn first_bad(formulas: &[u8], count: usize) -> usize
-    requires { count * table.formula_size ≤ length formulas.now }
-    ensures { result ≡ lists.first (table.formula_bad formulas.now) count }
-{
-    let mut i = 0;
-    while i < count {
-        if record_bad(formulas, i) {
-            return i;
-        }
-        i += 1;
-    }
-    count
-}
-
 // The input checks 4 and 5 of the table of formulas.
-pub fn check_formulas(formulas: &[u8]) -> Checked
+pub fn check_formulas(formulas: &[u8]) -> Result<(), TableFault>
     ensures { table.checked result ≡ table.formulas_fault formulas.now }
 {
-    let RecordCount::Whole(count) = tables::records(formulas.len(), RECORD, 1, 256) else {
-        return Checked::Size;
-    };
-    let bad = first_bad(formulas, count);
-    if bad < count {
-        return Checked::Record(bad);
-    }
-    Checked::Good
+    tables::check_records(formulas.len(), RECORD, 1, 256, |i| record_bad(formulas, i))?;
+    Ok(())
 }

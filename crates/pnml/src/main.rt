@@ -3,39 +3,23 @@
 // other arguments it writes nothing but its usage, to standard error.
 #![tactic(auto)]
 
-ghost use Rattle.std.specs.Prelude.{◌≡◌, ◌≤◌, length, replicate};
+ghost use Rattle.std.specs.Prelude.{◌≤◌, length};
 ghost use Rattle.pnml_read.specs.Answer as reads;
 
-use files::Got;
 use pnml_line::Trouble;
-use pnml_read::ReadResult;
-use pnml_write::Written;
+use pnml_read::{Found, ReadRefusal};
+use pnml_write::WriteRefusal;
 use std::io::Write;
 use std::{fs, io};
 
 // Room for the longest text: 64 places, 64 optional transitions with actions of five digits and all 8,192 arcs are 359,925 bytes.
-fn text_room() -> [u8; 400000]
-    ensures zeros { result ≡ replicate 400000 0 }
-    ensures size { 400000 ≡ length result }
-{
-    [0; 400000]
-}
+const TEXT: usize = 400000;
 
-// A buffer for a text of at most 1,000,000 bytes: a longer one fills it.
-fn file_room() -> [u8; 1000001]
-    ensures zeros { result ≡ replicate 1000001 0 }
-    ensures size { 1000001 ≡ length result }
-{
-    [0; 1000001]
-}
+// Room for a text of at most 1,000,000 bytes in a file: a longer one fills it.
+const FILE: usize = 1000001;
 
 // Room for the records of 64 transitions, which are the most that a text can have.
-fn record_room() -> [u8; 1536]
-    ensures zeros { result ≡ replicate 1536 0 }
-    ensures size { 1536 ≡ length result }
-{
-    [0; 1536]
-}
+const RECORDS: usize = 1536;
 
 // Writes the file that an argument names, made or overwritten, and answers whether it is whole. A path that is not UTF-8 is no file's, as std
 // opens none there.
@@ -61,7 +45,7 @@ fn tell_trouble(rt: HostRuntime, t: Trouble) -> io::Result<()> {
 }
 
 // Tells why there is no text.
-fn tell_refused(rt: HostRuntime, w: Written) -> io::Result<()> {
+fn tell_refused(rt: HostRuntime, w: Result<usize, WriteRefusal>) -> io::Result<()> {
     let mut line = [0u8; 40];
     let size = pnml_line::write_line(w, &mut line);
     rt.write_all(&line[..size])
@@ -69,9 +53,9 @@ fn tell_refused(rt: HostRuntime, w: Written) -> io::Result<()> {
 
 // Tells the text of the net with the ask's places and marking.
 fn tell_written(rt: HostRuntime, ask: &[u8], net: &[u8]) -> io::Result<()> {
-    let mut room = text_room();
+    let mut room: [u8; TEXT] = files::zeros();
     let w = pnml_line::write_ask(ask, net, &mut room);
-    let Written::Length(size) = w else {
+    let Ok(size) = w else {
         return tell_refused(rt, w);
     };
     rt.write_all(&room[..size])
@@ -79,22 +63,22 @@ fn tell_written(rt: HostRuntime, ask: &[u8], net: &[u8]) -> io::Result<()> {
 
 // Reads the ask and the net, and then writes the text.
 fn write(rt: HostRuntime) -> io::Result<()> {
-    let mut ask = files::room();
-    let Got::Whole(a) = files::read_argument(&rt, 2, &mut ask) else {
+    let mut ask: [u8; files::ROOM] = files::zeros();
+    let Some(a) = files::read_argument(&rt, 2, &mut ask) else {
         return tell_trouble(rt, Trouble::UnreadAsk);
     };
-    let mut net = files::room();
-    let Got::Whole(n) = files::read_argument(&rt, 3, &mut net) else {
+    let mut net: [u8; files::ROOM] = files::zeros();
+    let Some(n) = files::read_argument(&rt, 3, &mut net) else {
         return tell_trouble(rt, Trouble::UnreadNet);
     };
     tell_written(rt, &ask[..a], &net[..n])
 }
 
 // Whether the records of a text that was read, if it was, stand in the file NET.
-fn keep(rt: HostRuntime, r: ReadResult, records: &[u8]) -> bool
+fn keep(rt: HostRuntime, r: Result<Found, ReadRefusal>, records: &[u8]) -> bool
     requires { (reads.found_of r).length ≤ length records.now }
 {
-    let ReadResult::Granted(found) = r else {
+    let Ok(found) = r else {
         return true;
     };
     let size = found.length;
@@ -103,7 +87,7 @@ fn keep(rt: HostRuntime, r: ReadResult, records: &[u8]) -> bool
 
 // Tells what reading a text found, once the file NET has its records.
 fn tell_read(rt: HostRuntime, text: &[u8]) -> io::Result<()> {
-    let mut records = record_room();
+    let mut records: [u8; RECORDS] = files::zeros();
     let r = pnml_read::read(text, &mut records);
     if !keep(rt, r, &records) {
         return tell_trouble(rt, Trouble::UnwrittenNet);
@@ -115,8 +99,8 @@ fn tell_read(rt: HostRuntime, text: &[u8]) -> io::Result<()> {
 
 // Reads the file, and then its text.
 fn read(rt: HostRuntime) -> io::Result<()> {
-    let mut text = file_room();
-    let Got::Whole(n) = files::read_argument(&rt, 2, &mut text) else {
+    let mut text: [u8; FILE] = files::zeros();
+    let Some(n) = files::read_argument(&rt, 2, &mut text) else {
         return tell_trouble(rt, Trouble::UnreadFile);
     };
     tell_read(rt, &text[..n])

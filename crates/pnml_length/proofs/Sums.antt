@@ -1,7 +1,7 @@
 -- Lengths of elements, one after the other. Assumes nothing.
-use mathlib.Core.Path.{◌≡◌, refl, sym, ap, ap₂, ◌∙◌}
+use mathlib.Core.Path.{◌≡◌, refl, sym, ap, ◌∙◌}
 use mathlib.Core.Bool.{Bool, true, false, cond}
-use mathlib.Core.List.{List, [], ◌∷◌, ◌++◌, append_assoc, append-nil}
+use mathlib.Core.List.{List, [], ◌∷◌, ◌++◌, append-nil}
 use Prim.Native.Nat.{ℕ, ◌+◌, ◌*◌, ◌/◌, ◌≤◌, ◌<◌}
 use native.Mathlib.Nat.{add-zero}
 use native.Mathlib.Omega.{arith}
@@ -41,6 +41,10 @@ digits_four n h k = omega (arith, length_more n (omega arith), digits_three (n /
 
 pub digits_five : (n : ℕ) → 10000 ≤ n → n < 100000 → 5 ≡ length (decimal n)
 digits_five n h k = omega (arith, length_more n (omega arith), digits_four (n / 10) (omega arith) (omega arith))
+
+-- of a number by another name
+pub widened : {m n d : ℕ} → m ≡ n → (d ≡ length (decimal m)) × (d ≤ 5) → (d ≡ length (decimal n)) × (d ≤ 5)
+widened e p = (p.0 ∙ ap (λ (x : ℕ). length (decimal x)) e, p.1)
 
 -- ---- elements
 
@@ -94,13 +98,13 @@ arc_length i t p true =
     omega (
       arith,
       ap length (post_text i t p),
-      longer (bytes "<arc id=\"a") (decimal i) (bytes "\" source=\"t") (decimal t) (bytes "\" target=\"p") (decimal p) (bytes "\"/>"),
+      longer (bytes "<arc id=\"a") (decimal i) (bytes "\" source=\"") (116 ∷ decimal t) (bytes "\" target=\"") (112 ∷ decimal p) (bytes "\"/>"),
     )
 arc_length i t p false =
     omega (
       arith,
       ap length (pre_text i t p),
-      longer (bytes "<arc id=\"a") (decimal i) (bytes "\" source=\"p") (decimal p) (bytes "\" target=\"t") (decimal t) (bytes "\"/>"),
+      longer (bytes "<arc id=\"a") (decimal i) (bytes "\" source=\"") (112 ∷ decimal p) (bytes "\" target=\"") (116 ∷ decimal t) (bytes "\"/>"),
     )
 
 -- ---- arcs

@@ -10,7 +10,7 @@ ghost use Rattle.pnml_put.specs.Put as puts;
 ghost use Rattle.pnml_length.specs.Count as counts;
 
 // The length of arcs, and how many there are up to the last of them.
-#[derive(Drop)]
+#[derive(Clone, Copy)]
 struct Tally {
     length: usize,
     arcs: usize,
@@ -21,19 +21,13 @@ fn digits(n: usize) -> usize
     requires { n < 100000 }
     ensures { (result ≡ length (texts.decimal n)) × (result ≤ 5) }
 {
-    if n < 10 {
-        return 1;
+    match n {
+        0..=9 => 1,
+        10..=99 => 2,
+        100..=999 => 3,
+        1000..=9999 => 4,
+        _ => 5,
     }
-    if n < 100 {
-        return 2;
-    }
-    if n < 1000 {
-        return 3;
-    }
-    if n < 10000 {
-        return 4;
-    }
-    5
 }
 
 // The length of the places of a marking.
@@ -42,10 +36,8 @@ fn places_length(count: u32, marking: u64) -> usize
     ensures { counts.Count (74 * count) (puts.places_text (nets.mark_of marking) count) result }
 {
     let mut length = 0;
-    let mut i: u32 = 0;
-    while i < count {
+    for i in 0..count {
         length += 69 + digits(i as usize);
-        i += 1;
     }
     length
 }
@@ -55,7 +47,7 @@ fn transition_length(i: usize, action: u16, optional: bool) -> usize
     requires { i < 100 }
     ensures { counts.Count 107 (drawing.joined (drawing.transition_pieces i (nets.entry_by action optional))) result }
 {
-    let length = 58 + digits(i) + digits(action as usize);
+    let length = 58 + digits(i) + digits(usize::from(action));
     if optional {
         return length + 39;
     }
@@ -68,12 +60,10 @@ fn transitions_length(count: usize, net: &[u8]) -> usize
     ensures { counts.Count (107 * count) (puts.transitions_text (puts.entry_at net.now) count) result }
 {
     let mut length = 0;
-    let mut t = 0;
-    while t < count {
+    for t in 0..count {
         let from = t * net::RECORD;
         let action = tables::u16_at(net, from + 16);
         length += transition_length(t, action, net[from + 18] == 1);
-        t += 1;
     }
     length
 }
@@ -92,7 +82,7 @@ fn arc_where(tally: Tally, wanted: bool, t: usize, post: bool, p: usize) -> Tall
     tally
 }
 
-// The length of the arcs between a transition and the places of a set.
+// The length of the arcs between a transition and the places of a set, of which 8 that are not in it are passed at once: so no `for` over the places.
 fn arcs_by(tally: Tally, set: u64, t: usize, post: bool, places: usize) -> Tally
     requires { (tally.length ≤ 990000) × (tally.arcs ≤ 9100) × (t < 100) × (places ≤ 64) }
     ensures { counts.CountArcs 64 tally.length tally.arcs (nets.arcs_by set t post places) result.length result.arcs }
@@ -104,13 +94,13 @@ fn arcs_by(tally: Tally, set: u64, t: usize, post: bool, places: usize) -> Tally
         if rest == 0 {
             return sum;
         }
-        if (rest % 256 == 0) & (p + 8 <= places) {
-            rest = rest / 256;
+        if rest % 256 == 0 && p + 8 <= places {
+            rest /= 256;
             p += 8;
             continue;
         }
         sum = arc_where(sum, rest % 2 == 1, t, post, p);
-        rest = rest / 2;
+        rest /= 2;
         p += 1;
     }
     sum
@@ -122,14 +112,12 @@ fn arcs_length(places: usize, transitions: usize, net: &[u8]) -> usize
     ensures { counts.Count (6400 * transitions) (puts.arcs_text net.now places transitions) result }
 {
     let mut sum = Tally { length: 0, arcs: 0 };
-    let mut t = 0;
-    while t < transitions {
+    for t in 0..transitions {
         let from = t * net::RECORD;
         let pre = tables::u64_at(net, from);
         let post = tables::u64_at(net, from + 8);
         let half = arcs_by(sum, pre, t, false, places);
         sum = arcs_by(half, post, t, true, places);
-        t += 1;
     }
     sum.length
 }

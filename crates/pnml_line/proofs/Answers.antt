@@ -15,12 +15,14 @@ use Rattle.nodes.specs.declared.Ask.{Ask}
 use Rattle.nodes.specs.Nodes.{ask_size_lem, ask_of}
 use Rattle.checker.specs.Outcomes.{ask_good}
 use Rattle.checker.proofs.Admitting.{refusal_byte}
-use Rattle.pnml_write.specs.declared.Written.{Written}
-use Rattle.pnml_write.specs.declared.Written.TheVariants.{Length, Short, Refused}
+use Rattle.std.specs.Prelude.{Result, Ok, Err}
+use Rattle.pnml_write.specs.declared.WriteRefusal.{WriteRefusal}
+use Rattle.pnml_write.specs.declared.WriteRefusal.TheVariants.{Net, Short}
 use Rattle.pnml_write.specs.Answer.{Answer, refuse, found_of, length_of, answer_of, put_answer, text_of, write_answer}
 use Rattle.pnml_shape.specs.Machine.{Outcome, stopped, drawn}
-use Rattle.pnml_read.specs.declared.ReadResult.{ReadResult}
-use Rattle.pnml_read.specs.declared.ReadResult.TheVariants.{Granted, Left, Places as NoPlaces, Transitions as NoTransitions, Short as NoRoom}
+use Rattle.pnml_read.specs.declared.Found.{Found}
+use Rattle.pnml_read.specs.declared.ReadRefusal.{ReadRefusal}
+use Rattle.pnml_read.specs.declared.ReadRefusal.TheVariants.{Shape, Places as NoPlaces, Transitions as NoTransitions, Short as NoRoom}
 use Rattle.pnml_read.specs.Answer.{Answer as ReadAnswer, few, granted, drawn_answer, read_answer, number_of, found_of as result_of, answer_of as read_of}
 use Rattle.pnml_read.proofs.Answers.{few_most}
 use Rattle.pnml_line.specs.Line.{ask_answer}
@@ -32,15 +34,15 @@ module _ (ask net room : List ℕ) where
   abbrev by_test : Bool → Answer
   by_test b = cond b (write_answer (ask_of ask).places (ask_of ask).marking net room) (refuse (fault 1 0) room)
 
-  ask_bad : ask_good ask ≡ false → answer_of (Refused Places) room ≡ ask_answer ask net room
+  ask_bad : ask_good ask ≡ false → answer_of (Err (Net Places)) room ≡ ask_answer ask net room
   unfolding ask_answer found_of length_of refused
   ask_bad e = sym (ap by_test e)
 
-  pub ask_size : (length ask ≡ ask_size_lem → ⊥) → answer_of (Refused Places) room ≡ ask_answer ask net room
+  pub ask_size : (length ask ≡ ask_size_lem → ⊥) → answer_of (Err (Net Places)) room ≡ ask_answer ask net room
   unfolding ask_good
   ask_size d = ask_bad (ap (λ b. b && places_good (ask_of ask).places && leb (ask_of ask).side 1) (ne_eqb (length ask) ask_size_lem d))
 
-  pub ask_side : (a : Ask) → a ≡ ask_of ask → 1 < a.side → answer_of (Refused Places) room ≡ ask_answer ask net room
+  pub ask_side : (a : Ask) → a ≡ ask_of ask → 1 < a.side → answer_of (Err (Net Places)) room ≡ ask_answer ask net room
   unfolding ask_good
   ask_side a e h =
       let side : leb (ask_of ask).side 1 ≡ false = ap (λ (x : Ask). leb x.side 1) (sym e) ∙ lt-leb a.side 1 h in
@@ -69,19 +71,19 @@ module _ (ask net room : List ℕ) where
 
 -- ---- bounds: a refusal's number is a byte, a written text lies in its room, a read one has at most 64 places and 64 records
 
-pub written_byte : (w : Written) → (found_of w).number ≤ 255
+pub written_byte : (w : Result ℕ WriteRefusal) → (found_of w).number ≤ 255
 unfolding found_of
-written_byte (Length n) = omega arith
-written_byte Short = omega arith
-written_byte (Refused r) = omega (arith, refusal_byte r)
+written_byte (Ok n) = omega arith
+written_byte (Err Short) = omega arith
+written_byte (Err (Net r)) = omega (arith, refusal_byte r)
 
-pub read_byte : (r : ReadResult) → number_of r ≤ 255
+pub read_byte : (r : Result Found ReadRefusal) → number_of r ≤ 255
 unfolding number_of
-read_byte (Granted f) = omega arith
-read_byte (Left k) = omega arith
-read_byte NoPlaces = omega arith
-read_byte NoTransitions = omega arith
-read_byte NoRoom = omega arith
+read_byte (Ok f) = omega arith
+read_byte (Err (Shape k)) = omega arith
+read_byte (Err NoPlaces) = omega arith
+read_byte (Err NoTransitions) = omega arith
+read_byte (Err NoRoom) = omega arith
 
 -- what both choices have
 both {ℓ} : {A : Type ℓ} (P : A → Type 0) (b : Bool) {x y : A} → (b ≡ true → P x) → (b ≡ false → P y) → P (cond b x y)
@@ -105,7 +107,7 @@ ask-inside ask net room =
     (λ e. zero-le)
 
 -- the text that was written
-pub written_inside : (ask net room : List ℕ) {room' : List ℕ} {w : Written} (n : ℕ) → answer_of w room' ≡ ask_answer ask net room → w ≡ Length n → n ≤ length room'
+pub written_inside : (ask net room : List ℕ) {room' : List ℕ} {w : Result ℕ WriteRefusal} (n : ℕ) → answer_of w room' ≡ ask_answer ask net room → w ≡ Ok n → n ≤ length room'
 unfolding length_of
 written_inside ask net room {room'} n h e = subst Inside (sym h ∙ ap (λ x. answer_of x room') e) (ask-inside ask net room)
 
@@ -127,6 +129,6 @@ read_bounded (drawn d) room =
     (λ q. (zero-le, zero-le)))
     (λ p. (zero-le, zero-le))
 
-pub found_bounded : (o : Outcome) (room : List ℕ) {room' : List ℕ} (r : ReadResult) → read_of r room' ≡ read_answer o room
+pub found_bounded : (o : Outcome) (room : List ℕ) {room' : List ℕ} (r : Result Found ReadRefusal) → read_of r room' ≡ read_answer o room
     → ((result_of r).places ≤ 64) × ((result_of r).length ≤ 1536)
 found_bounded o room r h = subst Bounded (sym h) (read_bounded o room)

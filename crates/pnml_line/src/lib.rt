@@ -9,8 +9,8 @@ ghost use Rattle.pnml_line.specs.Line as lines;
 
 use net::Refusal;
 use nodes::read;
-use pnml_read::ReadResult;
-use pnml_write::Written;
+use pnml_read::{Found, ReadRefusal};
+use pnml_write::WriteRefusal;
 
 // A file that cannot be read or written.
 #[derive(Clone, Copy)]
@@ -23,17 +23,17 @@ pub enum Trouble {
 
 // Writes the text of the net with the ask's places and marking at the start of the room, whose other bytes stay: its length, or the first of
 // 1, 2, 3, 7 and 12, and then the whole room stays.
-pub fn write_ask(ask: &[u8], net: &[u8], room: &mut [u8]) -> Written
+pub fn write_ask(ask: &[u8], net: &[u8], room: &mut [u8]) -> Result<usize, WriteRefusal>
     ensures { writes.answer_of result room.new ≡ lines.ask_answer ask.now net.now room.old }
 {
     if ask.len() != read::ASK {
-        return Written::Refused(Refusal::Places);
+        return Err(WriteRefusal::Net(Refusal::Places));
     }
     let a = read::ask_of(ask);
     if a.side > 1 {
-        return Written::Refused(Refusal::Places);
+        return Err(WriteRefusal::Net(Refusal::Places));
     }
-    pnml_write::write(a.places as u32, a.marking, net, room)
+    pnml_write::write(u32::from(a.places), a.marking, net, room)
 }
 
 // The line of a refusal.
@@ -45,7 +45,7 @@ fn put_refused(line: &mut [u8; 40], number: u32, place: u64) -> usize
 }
 
 // Writes the line of a write's answer at the start of the buffer, whose other bytes stay, and answers its length.
-pub fn write_line(w: Written, line: &mut [u8; 40]) -> usize
+pub fn write_line(w: Result<usize, WriteRefusal>, line: &mut [u8; 40]) -> usize
     ensures { texts.Put line.old line.new 0 (lines.write_line w) result }
 {
     let n = pnml_write::written_numbers(w);
@@ -68,7 +68,7 @@ fn put_found(line: &mut [u8; 40], places: u32, marking: u64) -> usize
 }
 
 // Writes the line of a read's answer at the start of the buffer, whose other bytes stay, and answers its length.
-pub fn read_line(r: ReadResult, line: &mut [u8; 40]) -> usize
+pub fn read_line(r: Result<Found, ReadRefusal>, line: &mut [u8; 40]) -> usize
     requires { (reads.found_of r).places ≤ 64 }
     ensures { texts.Put line.old line.new 0 (lines.read_line r) result }
 {

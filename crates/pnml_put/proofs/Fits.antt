@@ -1,6 +1,7 @@
 -- Texts that are put where the text's end fits after them. Assumes nothing.
 use mathlib.Core.Path.{◌≡◌, refl, sym, ap, ap₂, ◌∙◌}
-use mathlib.Core.List.{List, [], ◌++◌}
+use mathlib.Core.Bool.{Bool, true, false, cond}
+use mathlib.Core.List.{List, [], ◌∷◌, ◌++◌}
 use Prim.Native.Nat.{ℕ, ◌+◌, ◌-◌, ◌≤◌, ◌<◌}
 use native.Mathlib.Nat.{add-zero}
 use native.Mathlib.Omega.{arith}
@@ -9,10 +10,11 @@ use lib.Seq.{sets}
 use Rattle.texts.specs.Text.{bytes, decimal}
 use Rattle.texts.proofs.Buffers.{sets_append}
 use Rattle.texts.proofs.Digits.{decimal_length}
-use Rattle.pnml_shape.specs.Drawing.{joined, openings, place_pieces, pressed_pieces, optional_pieces}
-use Rattle.pnml_put.specs.Put.{Put, Fit, Whole, named_text}
+use Rattle.pnml_shape.specs.Drawing.{joined, openings, place_pieces, transition_pieces}
+use Rattle.pnml_net.specs.Nets.{entry_by}
+use Rattle.pnml_put.specs.Put.{Put, Fit, Whole, named_text, arc_text}
 use Rattle.pnml_put.proofs.Puts.{put_length}
-use Rattle.pnml_put.proofs.Pieces.{place_text, pressed_text, optional_text, arc_text}
+use Rattle.pnml_put.proofs.Pieces.{place_text, pressed_text, optional_text, pressed_entry, optional_entry}
 
 -- nothing yet
 pub fit_none : (l : List ℕ) (at : ℕ) → at ≤ length l → Fit 0 l l at [] at
@@ -119,26 +121,28 @@ end_long {l} i a end h k t =
     let y = decimal_length 4 a (omega arith) in
     (omega (arith, e, n, x, y), omega (arith, e, n, x, y))
 
-pub pressed_long : (i a : ℕ) → i < 100 → a < 100000
-    → (length (joined (pressed_pieces i a)) ≤ 65) × (65 ≤ length (joined (pressed_pieces i a)) + 20)
-pressed_long i a h k = end_long i a (bytes "</text></name></transition>") h k (pressed_text i a)
+pub transition_long : {most : ℕ} (i a : ℕ) (b : Bool) → i < 100 → a < 65536 → most ≡ cond b 104 65
+    → (length (joined (transition_pieces i (entry_by a b))) ≤ most) × (most ≤ length (joined (transition_pieces i (entry_by a b))) + 20)
+transition_long i a true h k e =
+    let p = end_long i a (bytes "</text></name><toolspecific tool=\"desk\" version=\"1\"/></transition>") h (omega arith) (optional_text i a ∙ optional_entry i a refl) in
+    (omega (arith, p.0), omega (arith, p.1))
+transition_long i a false h k e =
+    let p = end_long i a (bytes "</text></name></transition>") h (omega arith) (pressed_text i a ∙ pressed_entry i a k refl) in
+    (omega (arith, p.0), omega (arith, p.1))
 
-pub optional_long : (i a : ℕ) → i < 100 → a < 100000
-    → (length (joined (optional_pieces i a)) ≤ 104) × (104 ≤ length (joined (optional_pieces i a)) + 20)
-optional_long i a h k =
-    end_long i a (bytes "</text></name><toolspecific tool=\"desk\" version=\"1\"/></transition>") h k (optional_text i a)
+pub longest_most : {most : ℕ} (b : Bool) → most ≡ cond b 104 65 → most ≤ 104
+longest_most true e = omega arith
+longest_most false e = omega arith
 
 pub longer : (a b c d e f g : List ℕ)
     → length (a ++ (b ++ (c ++ (d ++ (e ++ (f ++ g)))))) ≡ length a + (length b + (length c + (length d + (length e + (length f + length g)))))
 longer a b c d e f g = simp length-append
 
--- an arc whose ends begin with words of 11 bytes
-pub arc_long : {l : List ℕ} (i a b : ℕ) (v w : List ℕ) → i < 10000 → a < 100 → b < 100 → length v ≡ 11 → length w ≡ 11 → arc_text i v a w b ≡ l
-    → (length l ≤ 43) × (43 ≤ length l + 20)
-arc_long {l} i a b v w h j k p q t =
-    let e = ap length t in
-    let n = longer (bytes "<arc id=\"a") (decimal i) v (decimal a) w (decimal b) (bytes "\"/>") in
+pub arc_long : (i v a w b : ℕ) → i < 10000 → a < 100 → b < 100
+    → (length (arc_text i v a w b) ≤ 43) × (43 ≤ length (arc_text i v a w b) + 20)
+arc_long i v a w b h j k =
+    let n = longer (bytes "<arc id=\"a") (decimal i) (bytes "\" source=\"") (v ∷ decimal a) (bytes "\" target=\"") (w ∷ decimal b) (bytes "\"/>") in
     let x = decimal_length 3 i (omega arith) in
     let y = decimal_length 1 a (omega arith) in
     let z = decimal_length 1 b (omega arith) in
-    (omega (arith, e, n, x, y, z), omega (arith, e, n, x, y, z))
+    (omega (arith, n, x, y, z), omega (arith, n, x, y, z))

@@ -2,7 +2,7 @@
 use mathlib.Core.Path.{◌≡◌, refl, sym, ap, ap₂, ◌∙◌}
 use mathlib.Core.Bool.{Bool, true, false, cond}
 use mathlib.Core.List.{List, [], ◌∷◌, ◌++◌, append_assoc}
-use Prim.Native.Nat.{ℕ, zero, suc, ◌+◌, ◌-◌, ◌<◌}
+use Prim.Native.Nat.{ℕ, ◌+◌, ◌-◌, ◌<◌}
 use native.Mathlib.Nat.{add-zero}
 use native.Mathlib.Omega.{arith}
 use native.Mathlib.Numerals.{add-one}
@@ -13,7 +13,7 @@ use Rattle.pnml_shape.specs.Drawing.{Drawing, place_pieces, pressed_pieces, opti
 use Rattle.pnml_shape.specs.Drawing.{places, transitions, arcs, pieces, joined, written}
 use Rattle.pnml_net.specs.Nets.{countdown, entry_by}
 use Rattle.pnml_net.proofs.Marks.{countdown_length}
-use Rattle.pnml_put.specs.Put.{arc_of, named_text}
+use Rattle.pnml_put.specs.Put.{arc_of, arc_text, named_text}
 
 -- ---- one place, one transition
 
@@ -66,17 +66,14 @@ optional_entry {b} i a e =
 around : (a b c d : List ℕ) → a ++ (b ++ (c ++ d)) ≡ (a ++ (b ++ c)) ++ d
 around a b c d = simp append_assoc
 
--- an arc as words and numbers
-abbrev pub arc_text : (i : ℕ) (first : List ℕ) (a : ℕ) (second : List ℕ) (b : ℕ) → List ℕ
-arc_text i v a w b = bytes "<arc id=\"a" ++ (decimal i ++ (v ++ (decimal a ++ (w ++ (decimal b ++ bytes "\"/>")))))
-
-pub post_text : (i t p : ℕ) → arc_text i (bytes "\" source=\"t") t (bytes "\" target=\"p") p ≡ arc_piece i (arc_of t true p)
+-- 116 and 112 are the letters t and p
+pub post_text : (i t p : ℕ) → arc_text i 116 t 112 p ≡ arc_piece i (arc_of t true p)
 unfolding arc_piece
 post_text i t p =
     ap (λ (x : List ℕ). bytes "<arc id=\"a" ++ (decimal i ++ (bytes "\" source=\"t" ++ x)))
     (around (decimal t) (bytes "\" target=\"p") (decimal p) (bytes "\"/>"))
 
-pub pre_text : (i t p : ℕ) → arc_text i (bytes "\" source=\"p") p (bytes "\" target=\"t") t ≡ arc_piece i (arc_of t false p)
+pub pre_text : (i t p : ℕ) → arc_text i 112 p 116 t ≡ arc_piece i (arc_of t false p)
 unfolding arc_piece
 pre_text i t p =
     ap (λ (x : List ℕ). bytes "<arc id=\"a" ++ (decimal i ++ (bytes "\" source=\"p" ++ x)))

@@ -38,6 +38,10 @@ transitions_text f n = joined (transitions (countdown f n))
 abbrev pub named_text : (number action : ℕ) → List ℕ
 named_text i a = bytes "<transition id=\"t" ++ (decimal i ++ (bytes "\"><name><text>" ++ decimal a))
 
+-- an arc from one to another, each named by a letter and a number
+abbrev pub arc_text : (number letter source other target : ℕ) → List ℕ
+arc_text i v a w b = bytes "<arc id=\"a" ++ (decimal i ++ (bytes "\" source=\"" ++ ((v ∷ decimal a) ++ (bytes "\" target=\"" ++ ((w ∷ decimal b) ++ bytes "\"/>")))))
+
 -- the entry of a table's transition
 unfoldable pub entry_at : (bytes : List ℕ) (transition : ℕ) → ℕ
 entry_at b t = entry_by (action_at b t) (optional_at b t)

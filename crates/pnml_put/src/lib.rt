@@ -3,90 +3,60 @@
 // optional transitions are two kinds.
 #![tactic(auto)]
 
-ghost use Rattle.std.specs.Prelude.{◌≡◌, true, false, ◌+◌, ◌*◌, ◌≤◌, ◌<◌, length};
+ghost use Rattle.std.specs.Prelude.{◌≡◌, true, ◌+◌, ◌*◌, ◌^◌, ◌≤◌, ◌<◌, ◌∷◌, cond, length};
 ghost use Rattle.texts.specs.Text as texts;
 ghost use Rattle.net.specs.Table as table;
 ghost use Rattle.pnml_shape.specs.Drawing as drawing;
 ghost use Rattle.pnml_net.specs.Nets as nets;
 ghost use Rattle.pnml_put.specs.Put as puts;
 
+// Powers of ten, by the number of their zeros.
+const POWERS: [usize; 5] = [1, 10, 100, 1000, 10000];
+
 // The index after what was put, and how many arcs there are up to there.
-#[derive(Drop)]
+#[derive(Clone, Copy)]
 struct Spot {
     at: usize,
     arcs: usize,
 }
 
+// A place or a transition as an arc names it.
+#[derive(Clone, Copy)]
+struct Node {
+    letter: u8,
+    number: usize,
+}
+
 // ---- words and numbers, where there is room
 
-// Puts a word, and answers the index after it.
+// Puts a word, and answers the index after it. Not by `copy_from_slice`, with which a text of 8,192 arcs takes 1.3 times the instructions.
 fn word(room: &mut [u8], at: usize, word: &[u8]) -> usize
     requires { at + length word.now ≤ length room.old }
     ensures { puts.Put (length word.now) room.old room.new at word.now result }
 {
-    let mut i = 0;
-    while i < word.len() {
-        room[at + i] = word[i];
-        i += 1;
+    for (i, byte) in word.iter().enumerate() {
+        room[at + i] = *byte;
     }
     at + word.len()
 }
 
-// Puts a number of one digit.
-fn one(room: &mut [u8], at: usize, n: usize) -> usize
-    requires { (n < 10) × (at + 1 ≤ length room.old) }
-    ensures { puts.Put 1 room.old room.new at (texts.decimal n) result }
+// Puts a number of at most so many digits.
+fn number(room: &mut [u8], at: usize, most: usize, n: usize) -> usize
+    requires { (n < 10 ^ most) × (at + most ≤ length room.old) × (1 ≤ most) × (most ≤ 5) }
+    ensures { puts.Put most room.old room.new at (texts.decimal n) result }
 {
-    room[at] = 48 + n as u8;
-    at + 1
-}
-
-// Puts a number of two digits at most.
-fn two(room: &mut [u8], at: usize, n: usize) -> usize
-    requires { (n < 100) × (at + 2 ≤ length room.old) }
-    ensures { puts.Put 2 room.old room.new at (texts.decimal n) result }
-{
-    if n < 10 {
-        return one(room, at, n);
+    let mut next = at;
+    let mut rest = n;
+    for i in (1..most).rev() {
+        let unit = POWERS[i];
+        if n >= unit {
+            room[next] = 48 + (rest / unit) as u8;
+            next += 1;
+            rest %= unit;
+        }
     }
-    let at = one(room, at, n / 10);
-    one(room, at, n % 10)
-}
-
-// Puts a number of three digits at most.
-fn three(room: &mut [u8], at: usize, n: usize) -> usize
-    requires { (n < 1000) × (at + 3 ≤ length room.old) }
-    ensures { puts.Put 3 room.old room.new at (texts.decimal n) result }
-{
-    if n < 100 {
-        return two(room, at, n);
-    }
-    let at = two(room, at, n / 10);
-    one(room, at, n % 10)
-}
-
-// Puts a number of four digits at most.
-fn four(room: &mut [u8], at: usize, n: usize) -> usize
-    requires { (n < 10000) × (at + 4 ≤ length room.old) }
-    ensures { puts.Put 4 room.old room.new at (texts.decimal n) result }
-{
-    if n < 1000 {
-        return three(room, at, n);
-    }
-    let at = three(room, at, n / 10);
-    one(room, at, n % 10)
-}
-
-// Puts a number of five digits at most.
-fn five(room: &mut [u8], at: usize, n: usize) -> usize
-    requires { (n < 100000) × (at + 5 ≤ length room.old) }
-    ensures { puts.Put 5 room.old room.new at (texts.decimal n) result }
-{
-    if n < 10000 {
-        return four(room, at, n);
-    }
-    let at = four(room, at, n / 10);
-    one(room, at, n % 10)
+    room[next] = 48 + rest as u8;
+    next + 1
 }
 
 // ---- places
@@ -95,10 +65,7 @@ fn five(room: &mut [u8], at: usize, n: usize) -> usize
 fn mark(marking: u64, place: u32) -> usize
     ensures { (result ≡ nets.mark_of marking place) × (result < 10) }
 {
-    if bitset::member(marking, place) {
-        return 1;
-    }
-    0
+    usize::from(bitset::member(marking, place))
 }
 
 // Puts a place.
@@ -110,9 +77,9 @@ fn place(room: &mut [u8], at: usize, i: usize, mark: usize) -> usize
         return at;
     }
     let at = word(room, at, b"<place id=\"p");
-    let at = two(room, at, i);
+    let at = number(room, at, 2, i);
     let at = word(room, at, b"\"><initialMarking><text>");
-    let at = one(room, at, mark);
+    let at = number(room, at, 1, mark);
     word(room, at, b"</text></initialMarking></place>")
 }
 
@@ -122,53 +89,19 @@ fn places(room: &mut [u8], at: usize, count: u32, marking: u64) -> usize
     ensures { puts.Fit (71 * count) room.old room.new at (puts.places_text (nets.mark_of marking) count) result }
 {
     let mut next = at;
-    let mut i: u32 = 0;
-    while i < count {
+    for i in 0..count {
         next = place(room, next, i as usize, mark(marking, i));
-        i += 1;
     }
     next
 }
 
 // ---- transitions
 
-// Puts a transition up to its action.
-fn named(room: &mut [u8], at: usize, i: usize, action: u16) -> usize
-    requires { (i < 100) × (at + 38 ≤ length room.old) }
-    ensures { puts.Put 38 room.old room.new at (puts.named_text i action) result }
+// How long a transition is at most, optional or pressed.
+fn longest(optional: bool) -> usize
+    ensures { result ≡ cond optional 104 65 }
 {
-    let at = word(room, at, b"<transition id=\"t");
-    let at = two(room, at, i);
-    let at = word(room, at, b"\"><name><text>");
-    five(room, at, action as usize)
-}
-
-// Puts a pressed transition.
-fn pressed(room: &mut [u8], at: usize, i: usize, action: u16) -> usize
-    requires { (at ≤ length room.old) × (i < 100) }
-    ensures { puts.Fit 65 room.old room.new at (drawing.joined (drawing.pressed_pieces i action)) result }
-{
-    if room.len() - at < 65 {
-        return at;
-    }
-    let at = named(room, at, i, action);
-    word(room, at, b"</text></name></transition>")
-}
-
-// Puts an optional transition.
-fn optional(room: &mut [u8], at: usize, i: usize, action: u16) -> usize
-    requires { (at ≤ length room.old) × (i < 100) }
-    ensures { puts.Fit 104 room.old room.new at (drawing.joined (drawing.optional_pieces i action)) result }
-{
-    if room.len() - at < 104 {
-        return at;
-    }
-    let at = named(room, at, i, action);
-    word(
-        room,
-        at,
-        b"</text></name><toolspecific tool=\"desk\" version=\"1\"/></transition>",
-    )
+    if optional { 104 } else { 65 }
 }
 
 // Puts a transition, optional or pressed.
@@ -176,10 +109,21 @@ fn transition(room: &mut [u8], at: usize, i: usize, action: u16, optional: bool)
     requires { (at ≤ length room.old) × (i < 100) }
     ensures { puts.Fit 104 room.old room.new at (drawing.joined (drawing.transition_pieces i (nets.entry_by action optional))) result }
 {
-    if optional {
-        return self::optional(room, at, i, action);
+    if room.len() - at < longest(optional) {
+        return at;
     }
-    pressed(room, at, i, action)
+    let at = word(room, at, b"<transition id=\"t");
+    let at = number(room, at, 2, i);
+    let at = word(room, at, b"\"><name><text>");
+    let at = number(room, at, 5, usize::from(action));
+    if optional {
+        return word(
+            room,
+            at,
+            b"</text></name><toolspecific tool=\"desk\" version=\"1\"/></transition>",
+        );
+    }
+    word(room, at, b"</text></name></transition>")
 }
 
 // Puts the transitions of a table.
@@ -188,49 +132,39 @@ fn transitions(room: &mut [u8], at: usize, count: usize, net: &[u8]) -> usize
     ensures { puts.Fit (104 * count) room.old room.new at (puts.transitions_text (puts.entry_at net.now) count) result }
 {
     let mut next = at;
-    let mut t = 0;
-    while t < count {
+    for t in 0..count {
         let from = t * net::RECORD;
         let action = tables::u16_at(net, from + 16);
         next = transition(room, next, t, action, net[from + 18] == 1);
-        t += 1;
     }
     next
 }
 
 // ---- arcs
 
-// Puts the arc with this number from a place to a transition.
-fn into(room: &mut [u8], at: usize, i: usize, transition: usize, place: usize) -> usize
-    requires { (at ≤ length room.old) × (i < 10000) × (transition < 100) × (place < 100) }
-    ensures { puts.Fit 43 room.old room.new at (drawing.arc_piece i (puts.arc_of transition false place)) result }
+// Puts what names a place or a transition: its letter and its number.
+fn node_name(room: &mut [u8], at: usize, node: Node) -> usize
+    requires { (node.number < 100) × (at + 3 ≤ length room.old) }
+    ensures { puts.Put 3 room.old room.new at (node.letter ∷ texts.decimal node.number) result }
 {
-    if room.len() - at < 43 {
-        return at;
-    }
-    let at = word(room, at, b"<arc id=\"a");
-    let at = four(room, at, i);
-    let at = word(room, at, b"\" source=\"p");
-    let at = two(room, at, place);
-    let at = word(room, at, b"\" target=\"t");
-    let at = two(room, at, transition);
-    word(room, at, b"\"/>")
+    room[at] = node.letter;
+    number(room, at + 1, 2, node.number)
 }
 
-// Puts the arc with this number from a transition to a place.
-fn out_of(room: &mut [u8], at: usize, i: usize, transition: usize, place: usize) -> usize
-    requires { (at ≤ length room.old) × (i < 10000) × (transition < 100) × (place < 100) }
-    ensures { puts.Fit 43 room.old room.new at (drawing.arc_piece i (puts.arc_of transition true place)) result }
+// Puts the arc with this number from one to another.
+fn arc_from(room: &mut [u8], at: usize, i: usize, source: Node, target: Node) -> usize
+    requires { (at ≤ length room.old) × (i < 10000) × (source.number < 100) × (target.number < 100) }
+    ensures { puts.Fit 43 room.old room.new at (puts.arc_text i source.letter source.number target.letter target.number) result }
 {
     if room.len() - at < 43 {
         return at;
     }
     let at = word(room, at, b"<arc id=\"a");
-    let at = four(room, at, i);
-    let at = word(room, at, b"\" source=\"t");
-    let at = two(room, at, transition);
-    let at = word(room, at, b"\" target=\"p");
-    let at = two(room, at, place);
+    let at = number(room, at, 4, i);
+    let at = word(room, at, b"\" source=\"");
+    let at = node_name(room, at, source);
+    let at = word(room, at, b"\" target=\"");
+    let at = node_name(room, at, target);
     word(room, at, b"\"/>")
 }
 
@@ -239,93 +173,66 @@ fn arc(room: &mut [u8], at: usize, i: usize, transition: usize, post: bool, plac
     requires { (at ≤ length room.old) × (i < 10000) × (transition < 100) × (place < 100) }
     ensures { puts.Fit 43 room.old room.new at (drawing.arc_piece i (puts.arc_of transition post place)) result }
 {
+    let transition = Node {
+        letter: b't',
+        number: transition,
+    };
+    let place = Node {
+        letter: b'p',
+        number: place,
+    };
     if post {
-        return out_of(room, at, i, transition, place);
+        return arc_from(room, at, i, transition, place);
     }
-    into(room, at, i, transition, place)
+    arc_from(room, at, i, place, transition)
 }
 
 // Puts the arc between a transition and a place where it is wanted.
-fn arc_where(
-    room: &mut [u8],
-    at: usize,
-    arcs: usize,
-    wanted: bool,
-    t: usize,
-    post: bool,
-    p: usize,
-) -> Spot
-    requires { (at ≤ length room.old) × (arcs < 10000) × (t < 100) × (p < 100) }
-    ensures { puts.FitArcs 1 room.old room.new at arcs (puts.arc_where wanted t post p) result.at result.arcs }
+fn arc_where(room: &mut [u8], spot: Spot, wanted: bool, t: usize, post: bool, p: usize) -> Spot
+    requires { (spot.at ≤ length room.old) × (spot.arcs < 10000) × (t < 100) × (p < 100) }
+    ensures { puts.FitArcs 1 room.old room.new spot.at spot.arcs (puts.arc_where wanted t post p) result.at result.arcs }
 {
     if wanted {
-        let next = arc(room, at, arcs, t, post, p);
+        let at = arc(room, spot.at, spot.arcs, t, post, p);
         return Spot {
-            at: next,
-            arcs: arcs + 1,
+            at,
+            arcs: spot.arcs + 1,
         };
     }
-    Spot { at, arcs }
+    spot
 }
 
-// Puts the arcs between a transition and the places of a set, of which 8 that are not in it are passed at once.
-fn arcs_by(
-    room: &mut [u8],
-    at: usize,
-    arcs: usize,
-    set: u64,
-    t: usize,
-    post: bool,
-    places: usize,
-) -> Spot
-    requires { (at ≤ length room.old) × (arcs ≤ 9100) × (t < 100) × (places ≤ 64) }
-    ensures { puts.FitArcs 64 room.old room.new at arcs (nets.arcs_by set t post places) result.at result.arcs }
+// Puts the arcs between a transition and the places of a set, of which 8 that are not in it are passed at once: so no `for` over the places.
+fn arcs_by(room: &mut [u8], spot: Spot, set: u64, t: usize, post: bool, places: usize) -> Spot
+    requires { (spot.at ≤ length room.old) × (spot.arcs ≤ 9100) × (t < 100) × (places ≤ 64) }
+    ensures { puts.FitArcs 64 room.old room.new spot.at spot.arcs (nets.arcs_by set t post places) result.at result.arcs }
 {
-    let mut next = at;
-    let mut count = arcs;
+    let mut next = spot;
     let mut rest = set;
     let mut p = 0;
     while p < places {
         if rest == 0 {
-            return Spot {
-                at: next,
-                arcs: count,
-            };
+            return next;
         }
-        if (rest % 256 == 0) & (p + 8 <= places) {
-            rest = rest / 256;
+        if rest % 256 == 0 && p + 8 <= places {
+            rest /= 256;
             p += 8;
             continue;
         }
-        let spot = arc_where(room, next, count, rest % 2 == 1, t, post, p);
-        next = spot.at;
-        count = spot.arcs;
-        rest = rest / 2;
+        next = arc_where(room, next, rest % 2 == 1, t, post, p);
+        rest /= 2;
         p += 1;
     }
-    Spot {
-        at: next,
-        arcs: count,
-    }
+    next
 }
 
 // Puts the arcs of a transition with these sets: pre before post.
-fn arcs_at(
-    room: &mut [u8],
-    at: usize,
-    arcs: usize,
-    pre: u64,
-    post: u64,
-    t: usize,
-    places: usize,
-) -> Spot
-    requires { (at ≤ length room.old) × (arcs ≤ 9000) × (t < 100) × (places ≤ 64) }
-    ensures { puts.FitArcs 128 room.old room.new at arcs (puts.arcs_at pre post t places) result.at result.arcs }
+fn arcs_at(room: &mut [u8], spot: Spot, pre: u64, post: u64, t: usize, places: usize) -> Spot
+    requires { (spot.at ≤ length room.old) × (spot.arcs ≤ 9000) × (t < 100) × (places ≤ 64) }
+    ensures { puts.FitArcs 128 room.old room.new spot.at spot.arcs (puts.arcs_at pre post t places) result.at result.arcs }
 {
-    let spot = arcs_by(room, at, arcs, pre, t, false, places);
-    let next = spot.at;
-    let count = spot.arcs;
-    arcs_by(room, next, count, post, t, true, places)
+    let spot = arcs_by(room, spot, pre, t, false, places);
+    arcs_by(room, spot, post, t, true, places)
 }
 
 // Puts the arcs of a table.
@@ -333,19 +240,14 @@ fn all_arcs(room: &mut [u8], at: usize, places: usize, transitions: usize, net: 
     requires { (at ≤ length room.old) × (places ≤ 64) × (transitions ≤ 64) × (transitions * table.transition_size ≤ length net.now) }
     ensures { puts.Fit (5504 * transitions) room.old room.new at (puts.arcs_text net.now places transitions) result }
 {
-    let mut next = at;
-    let mut count = 0;
-    let mut t = 0;
-    while t < transitions {
+    let mut spot = Spot { at, arcs: 0 };
+    for t in 0..transitions {
         let from = t * net::RECORD;
         let pre = tables::u64_at(net, from);
         let post = tables::u64_at(net, from + 8);
-        let spot = arcs_at(room, next, count, pre, post, t, places);
-        next = spot.at;
-        count = spot.arcs;
-        t += 1;
+        spot = arcs_at(room, spot, pre, post, t, places);
     }
-    next
+    spot.at
 }
 
 // ---- the text

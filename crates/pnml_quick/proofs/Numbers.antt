@@ -8,7 +8,7 @@ use native.Mathlib.Omega.{arith}
 use lib.ListN.{length, drop, get_or, length-append}
 use lib.Seq.{drop-cons}
 use lib.Dec.{ltb, leb, eqb}
-use borrow.Author.Tests.{ltb-true, ltb-false, lt-ltb, le-leb, lt-leb, leb-true, eqb-false}
+use borrow.Author.Tests.{ltb-true, ltb-false, le-leb, lt-leb, leb-true, eqb-false}
 use Rattle.tables.proofs.Tests.{and_intro, and_left, and_right}
 use Rattle.texts.specs.Text.{decimal}
 use Rattle.pnml_shape.specs.Machine.{digit}
@@ -100,7 +100,3 @@ read_over t at lo hi k v s h e w =
       follows = h;
       over = other_none (get_or t k 0) e;
     }
-
--- nothing is said of what is not there
-pub nothing {ℓ} : {A : Type ℓ} → false ≡ true → A
-nothing e = let z : ◌≡◌ {A = ℕ} 0 1 = cc in absurd (omega arith)

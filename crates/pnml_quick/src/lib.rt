@@ -1,7 +1,7 @@
 // What the PNML reader tries first: a word eight bytes at a time, a number with no look at its bounds before the end.
 #![tactic(auto)]
 
-ghost use Rattle.std.specs.Prelude.{◌+◌, ◌-◌, ◌≤◌, ◌<◌, ◌≡◌, true, false, length};
+ghost use Rattle.std.specs.Prelude.{◌+◌, ◌-◌, ◌≤◌, ◌<◌, ◌≡◌, true, false, length, IfSome};
 ghost use Rattle.pnml_quick.specs.Serving as serving;
 
 // ---- words
@@ -14,7 +14,7 @@ fn eight(text: &[u8], k: usize, word: &[u8], i: usize) -> bool
     tables::u64_at(text, k) == tables::u64_at(word, i)
 }
 
-// Whether four bytes of the text are four of the word.
+// Whether four bytes of the text are four of the word. `tables` has a function for each width, so this is no case of one function.
 fn four(text: &[u8], k: usize, word: &[u8], i: usize) -> bool
     requires { (k + 4 ≤ length text.now) × (i + 4 ≤ length word.now) }
     ensures { result ≡ true → serving.Alike text.now k word.now i 4 }
@@ -27,12 +27,10 @@ fn ending(text: &[u8], at: usize, word: &[u8], from: usize) -> bool
     requires { (at + length word.now ≤ length text.now) × (from ≤ length word.now) }
     ensures { result ≡ true → serving.From text.now at word.now from (length word.now) }
 {
-    let mut i = from;
-    while i < word.len() {
+    for i in from..word.len() {
         if text[at + i] != word[i] {
             return false;
         }
-        i += 1;
     }
     true
 }
@@ -51,7 +49,8 @@ fn few(text: &[u8], at: usize, word: &[u8], from: usize) -> bool
     ending(text, at, word, from + 4)
 }
 
-// Whether the bytes of a word are there. Where this is false, they may be.
+// Whether the bytes of a word are there. Where this is false, they may be. Eight bytes at a time, for the speed of reading: the `starts_with`
+// of a slice goes byte by byte.
 pub fn there(text: &[u8], at: usize, word: &[u8]) -> bool
     requires { at ≤ length text.now }
     ensures { result ≡ true → serving.There text.now at word.now }
@@ -59,22 +58,20 @@ pub fn there(text: &[u8], at: usize, word: &[u8]) -> bool
     if text.len() - at < word.len() {
         return false;
     }
-    let mut i = 0;
-    while 8 <= word.len() - i {
-        if !eight(text, at + i, word, i) {
+    let eights = word.len() / 8;
+    for n in 0..eights {
+        if !eight(text, at + 8 * n, word, 8 * n) {
             return false;
         }
-        i += 8;
     }
-    few(text, at, word, i)
+    few(text, at, word, 8 * eights)
 }
 
 // ---- numbers
 
-// A number, the offset after it, and whether it is there.
+// A number, and the offset after it.
 #[derive(Clone, Copy)]
-pub struct Whole {
-    pub ok: bool,
+pub struct Number {
     pub at: usize,
     pub value: usize,
 }
@@ -83,7 +80,7 @@ pub struct Whole {
 fn other(b: u8) -> bool
     ensures { result ≡ serving.other b }
 {
-    (b < 48) | (57 < b)
+    (b < b'0') | (b'9' < b)
 }
 
 // The digit that a byte is.
@@ -91,55 +88,38 @@ fn worth(b: u8) -> usize
     requires { (48 ≤ b) × (b ≤ 57) }
     ensures { result ≡ b - 48 }
 {
-    (b - 48) as usize
-}
-
-// No number.
-fn none(at: usize) -> Whole
-    ensures { result.ok ≡ false }
-{
-    Whole {
-        ok: false,
-        at,
-        value: 0,
-    }
+    usize::from(b - b'0')
 }
 
 // The rest of a number after its first digits.
-fn more(text: &[u8], at: usize, from: usize, n: usize, lo: usize, hi: usize) -> Whole
+fn more(text: &[u8], at: usize, from: usize, n: usize, lo: usize, hi: usize) -> Option<Number>
     requires { serving.Begun text.now at from n }
-    ensures { result.ok ≡ true → serving.Read text.now at lo hi result.at result.value }
+    ensures { IfSome result (λ n. serving.Read text.now at lo hi n.at n.value) }
 {
-    let mut k = from;
     let mut v = n;
-    while k < text.len() {
+    for k in from..text.len() {
         let b = text[k];
         if other(b) {
-            return Whole {
-                ok: (lo <= v) & (v <= hi),
-                at: k,
-                value: v,
-            };
+            if (lo <= v) & (v <= hi) {
+                return Some(Number { at: k, value: v });
+            }
+            return None;
         }
         if (v == 0) | (400000000 < v) {
-            return none(at);
+            return None;
         }
         v = 10 * v + worth(b);
-        k += 1;
     }
-    none(at)
+    None
 }
 
-// A number from lo to hi with a byte after it. Where this is not ok, it may be there: no number above 4000000009 is found.
-pub fn whole_number(text: &[u8], at: usize, lo: usize, hi: usize) -> Whole
-    ensures { result.ok ≡ true → serving.Read text.now at lo hi result.at result.value }
+// A number from lo to hi with a byte after it. Where there is none here, one may be there: no number above 4000000009 is found.
+pub fn whole_number(text: &[u8], at: usize, lo: usize, hi: usize) -> Option<Number>
+    ensures { IfSome result (λ n. serving.Read text.now at lo hi n.at n.value) }
 {
-    if text.len() <= at {
-        return none(at);
-    }
-    let b = text[at];
+    let b = *text.get(at)?;
     if other(b) {
-        return none(at);
+        return None;
     }
     more(text, at, at + 1, worth(b), lo, hi)
 }

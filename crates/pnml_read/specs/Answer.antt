@@ -1,12 +1,14 @@
 -- The answer of reading a PNML text, by the numbers of document 02 (F-1). Assumes nothing.
 use Rattle.std.specs.Prelude.{ℕ, ◌*◌, Bool, cond, ◌&&◌, List, ◌++◌, length, drop, ltb, leb}
+use Rattle.std.specs.Prelude.{Result, Ok, Err}
 use Rattle.net.specs.Table.{transition_size}
 use Rattle.pnml_shape.specs.Drawing.{Drawing}
 use Rattle.pnml_shape.specs.Machine.{Outcome, stopped, drawn}
 use Rattle.pnml_net.specs.Nets.{marking_of, records_of}
+use Rattle.pnml_scan.specs.declared.Left.{Left}
 use Rattle.pnml_read.specs.declared.Found.{Found}
-use Rattle.pnml_read.specs.declared.ReadResult.{ReadResult}
-use Rattle.pnml_read.specs.declared.ReadResult.TheVariants.{Granted, Left, Places, Transitions, Short}
+use Rattle.pnml_read.specs.declared.ReadRefusal.{ReadRefusal}
+use Rattle.pnml_read.specs.declared.ReadRefusal.TheVariants.{Shape, Places, Transitions, Short}
 
 -- the number, 0 where granted; the offset; places, marking and the bytes of the records, 0 where refused; and the room after
 pub record Answer : Type 0 where
@@ -54,31 +56,32 @@ read_answer (drawn d) room = drawn_answer d room
 abbrev pub nothing_found : Found
 nothing_found = record { places = 0; marking = 0; length = 0 }
 
--- its number and place
-unfoldable pub number_of : ReadResult → ℕ
-number_of (Granted f) = 0
-number_of (Left k) = 13
-number_of Places = 1
-number_of Transitions = 2
-number_of Short = 12
+-- where the text left the shape
+abbrev pub of_left : Left → ReadRefusal
+of_left left = Shape left.at
 
-unfoldable pub place_of : ReadResult → ℕ
-place_of (Granted f) = 0
-place_of (Left k) = k
-place_of Places = 0
-place_of Transitions = 0
-place_of Short = 0
+-- its number and place
+unfoldable pub number_of : Result Found ReadRefusal → ℕ
+number_of (Ok f) = 0
+number_of (Err (Shape k)) = 13
+number_of (Err Places) = 1
+number_of (Err Transitions) = 2
+number_of (Err Short) = 12
+
+unfoldable pub place_of : Result Found ReadRefusal → ℕ
+place_of (Ok f) = 0
+place_of (Err (Shape k)) = k
+place_of (Err Places) = 0
+place_of (Err Transitions) = 0
+place_of (Err Short) = 0
 
 -- what it found
-unfoldable pub found_of : ReadResult → Found
-found_of (Granted f) = f
-found_of (Left k) = nothing_found
-found_of Places = nothing_found
-found_of Transitions = nothing_found
-found_of Short = nothing_found
+unfoldable pub found_of : Result Found ReadRefusal → Found
+found_of (Ok f) = f
+found_of (Err why) = nothing_found
 
 -- what it says, with this room after
-abbrev pub answer_of : ReadResult → List ℕ → Answer
+abbrev pub answer_of : Result Found ReadRefusal → List ℕ → Answer
 answer_of r room =
     record {
       number = number_of r;

@@ -1,10 +1,12 @@
 // The reader: places, marking and transition records of a PNML text, the records put into lent room.
 #![tactic(auto)]
 
-ghost use Rattle.std.specs.Prelude.{◌≡◌, true};
+ghost use Rattle.std.specs.Prelude.{◌≡◌, Ok, Err};
 ghost use Rattle.pnml_shape.specs.Theorem as theorem;
 ghost use Rattle.pnml_scan.specs.Serving as scans;
 ghost use Rattle.pnml_read.specs.Answer as answers;
+
+use pnml_scan::Left;
 
 // What a text gives: how many places, their marking, and the bytes of the records.
 #[derive(Clone, Copy)]
@@ -14,18 +16,27 @@ pub struct Found {
     pub length: usize,
 }
 
-// The answer: what was found, or why not. `answer_of` of specs/ has document 02's numbers: the text leaves the shape at an offset (13), no
-// or more than 64 places (1) or transitions (2), a room that is too short (12).
-#[derive(Clone, Copy)]
-pub enum ReadResult {
-    Granted(Found),
-    Left(usize),
+// Why a text is not read. `answer_of` of specs/ has document 02's numbers: the text leaves the shape at an offset (13), no or more than 64
+// places (1) or transitions (2), a room that is too short (12).
+#[derive(Clone, Copy, PartialEq, Eq)]
+pub enum ReadRefusal {
+    Shape(usize),
     Places,
     Transitions,
     Short,
 }
 
-// An answer in document 02's numbers: 0 where granted; the offset as its place; the rest 0 where refused.
+impl From<Left> for ReadRefusal {
+    ghost use Rattle.pnml_read.specs.Answer.{of_left};
+
+    ghost from_gives = { λ left why. why ≡ of_left left };
+
+    fn from(left: Left) -> ReadRefusal {
+        ReadRefusal::Shape(left.at)
+    }
+}
+
+// An answer in document 02's numbers, for the C interface: 0 where granted; the offset as its place; the rest 0 where refused.
 #[derive(Clone, Copy)]
 pub struct Numbers {
     pub number: u32,
@@ -43,53 +54,39 @@ fn few(n: usize) -> bool
 }
 
 // Reads the rest of a text after its opening.
-fn read_opened(text: &[u8], at: usize, room: &mut [u8]) -> ReadResult
-    requires { scans.Opened text.now true at }
+fn read_opened(text: &[u8], at: usize, room: &mut [u8]) -> Result<Found, ReadRefusal>
+    requires { scans.Opened text.now (Ok at) }
     ensures { answers.answer_of result room.new ≡ answers.read_answer (theorem.reading text.now) room.old }
 {
     let mut pre = [0u64; 64];
     let mut post = [0u64; 64];
     let mut action = [0u32; 64];
-    let t = pnml_turn::read_elements(text, at, &mut pre, &mut post, &mut action);
-    if !t.ok {
-        return ReadResult::Left(t.at);
+    let read = pnml_turn::read_elements(text, at, &mut pre, &mut post, &mut action)?;
+    if !few(read.places) {
+        return Err(ReadRefusal::Places);
     }
-    if !few(t.places) {
-        return ReadResult::Places;
+    if !few(read.transitions) {
+        return Err(ReadRefusal::Transitions);
     }
-    if !few(t.transitions) {
-        return ReadResult::Transitions;
-    }
-    let length = t.transitions * net::RECORD;
+    let length = read.transitions * net::RECORD;
     if room.len() < length {
-        return ReadResult::Short;
+        return Err(ReadRefusal::Short);
     }
-    pnml_records::put_records(room, t.transitions, &pre, &post, &action);
-    granted(t.places as u32, t.marking, length)
+    pnml_records::put_records(room, read.transitions, &pre, &post, &action);
+    Ok(Found {
+        places: read.places as u32,
+        marking: read.marking,
+        length,
+    })
 }
 
 // Reads a text: places, marking and the records, which stand at the start of the room; the rest of it stays. A refused call writes nothing.
-pub fn read(text: &[u8], room: &mut [u8]) -> ReadResult
+pub fn read(text: &[u8], room: &mut [u8]) -> Result<Found, ReadRefusal>
     ensures answer { answers.answer_of result room.new ≡ answers.read_answer (theorem.reading text.now) room.old }
     ensures exact { theorem.Right text.now (theorem.reading text.now) }
 {
-    let opening = pnml_scan::opening(text);
-    let at = opening.at;
-    if !opening.ok {
-        return ReadResult::Left(at);
-    }
+    let at = pnml_scan::opening(text)?;
     read_opened(text, at, room)
-}
-
-// A text that was read.
-fn granted(places: u32, marking: u64, length: usize) -> ReadResult
-    ensures { result ≡ ReadResult.Granted (record { places = places; marking = marking; length = length }) }
-{
-    ReadResult::Granted(Found {
-        places,
-        marking,
-        length,
-    })
 }
 
 // A refusal's number and place.
@@ -105,21 +102,30 @@ fn refused(number: u32, place: u64) -> Numbers
     }
 }
 
+// The numbers of a refusal.
+fn refusal_numbers(why: ReadRefusal) -> Numbers
+    ensures { result ≡ record { number = answers.number_of (Err why); place = answers.place_of (Err why); places = 0; marking = 0; length = 0 } }
+{
+    match why {
+        ReadRefusal::Shape(at) => refused(13, at as u64),
+        ReadRefusal::Places => refused(1, 0),
+        ReadRefusal::Transitions => refused(2, 0),
+        ReadRefusal::Short => refused(12, 0),
+    }
+}
+
 // The numbers of an answer.
-pub fn read_numbers(r: ReadResult) -> Numbers
+pub fn read_numbers(r: Result<Found, ReadRefusal>) -> Numbers
     ensures { (result.number ≡ answers.number_of r) × (result.place ≡ answers.place_of r) × (result.places ≡ (answers.found_of r).places) × (result.marking ≡ (answers.found_of r).marking) × (result.length ≡ (answers.found_of r).length) }
 {
     match r {
-        ReadResult::Granted(f) => Numbers {
+        Ok(f) => Numbers {
             number: 0,
             place: 0,
             places: f.places,
             marking: f.marking,
             length: f.length as u64,
         },
-        ReadResult::Left(at) => refused(13, at as u64),
-        ReadResult::Places => refused(1, 0),
-        ReadResult::Transitions => refused(2, 0),
-        ReadResult::Short => refused(12, 0),
+        Err(why) => refusal_numbers(why),
     }
 }

@@ -15,7 +15,7 @@ fn put_record(room: &mut [u8], t: usize, pre: u64, post: u64, action: u32)
     let at = t * net::RECORD;
     stores::put_bytes(room, at, 8, pre);
     stores::put_bytes(room, at + 8, 8, post);
-    stores::put_bytes(room, at + 16, 3, action as u64);
+    stores::put_bytes(room, at + 16, 3, u64::from(action));
     stores::put_bytes(room, at + 19, 5, 0);
 }
 
@@ -30,9 +30,7 @@ pub fn put_records<'a>(
     requires { (count ≤ 64) × (count * transition_size ≤ length room.old) }
     ensures { room.new ≡ sets room.old 0 (records_by pre.now post.now action.now count) }
 {
-    let mut t = 0;
-    while t < count {
+    for t in 0..count {
         put_record(room, t, pre[t], post[t], action[t]);
-        t += 1;
     }
 }

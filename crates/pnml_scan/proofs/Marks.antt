@@ -1,5 +1,5 @@
 -- The end of a transition, with or without the mark of an optional one. For any text. Assumes nothing.
-use mathlib.Core.Path.{◌≡◌, refl, sym, ap, ◌∙◌, subst, subst⁻¹}
+use mathlib.Core.Path.{◌≡◌, refl, sym, ap, ◌∙◌, subst}
 use mathlib.Core.Bool.{Bool, true, false, cond, ◌&&◌, false≢true}
 use mathlib.Core.List.{List, ◌∷◌, ◌++◌}
 use mathlib.Core.Option.{some}
@@ -14,11 +14,14 @@ use Rattle.tables.proofs.Tests.{and_left, and_right, and_intro, failed}
 use Rattle.texts.specs.Text.{bytes}
 use Rattle.pnml_shape.specs.Shape.{white}
 use Rattle.pnml_shape.specs.Drawing.{Drawing}
-use Rattle.pnml_shape.specs.Machine.{Format, byte, either, space, spell, number, turn, add_transition, transition_format, step, stopped, finish, scan}
+use Rattle.pnml_shape.specs.Machine.{Format, byte, either, space, spell, turn, add_transition, transition_format, step, stopped, finish, scan}
 use Rattle.pnml_quick.specs.Serving.{There}
-use Rattle.pnml_scan.specs.Serving.{goes_on, Skipped, NextSkipped, Word, Tag, Value, mark_opens, mark_format, MarkRead, end_format, EndRead, TransitionRead}
+use Rattle.std.specs.Prelude.{Result, Ok, Err}
+use Rattle.pnml_quick.specs.declared.Number.{Number}
+use Rattle.pnml_scan.specs.declared.Left.{Left}
+use Rattle.pnml_scan.specs.Serving.{Part, Skipped, Word, Value, mark_opens, mark_format, MarkRead, end_format, EndRead, TransitionRead}
 use Rattle.pnml_scan.proofs.Scan.{taken, refused, at_end, alike, byte_taken, byte_other, passed_none, passed_all, space_keeps, space_over, word_firm, tag_of, there_word}
-use Rattle.pnml_scan.proofs.Parts.{gone, blank_next, head_format, Headed}
+use Rattle.pnml_scan.proofs.Parts.{head_format, tags_format, front_format, fronted}
 
 -- ---- the first two bytes
 
@@ -90,83 +93,97 @@ unmarked t at F G n f = by (ltb at (length t)) refl
 -- ---- the mark
 
 -- white space before a format that is not at its end
-pub space_next : {t : List ℕ} {had : Bool} {at k : ℕ} → NextSkipped t had at k → (F : Format) → finish F k ≡ stopped k
-    → goes_on had at (space F) t ≡ goes_on had k F t
-unfolding goes_on
-space_next {t} {had} {at} {k} s F e = by had s
-  where
-    by : (b : Bool) → NextSkipped t b at k → cond b (scan (space F) at (drop at t)) (stopped at) ≡ cond b (scan F k (drop k t)) (stopped k)
-    by true s = let w = s.skips refl in w.same (space F) (space_keeps F) ∙ space_over t k F w.stops e
-    by false s = ap stopped (sym (s.stays refl))
+space_next : {t : List ℕ} {at k : ℕ} → Skipped t at k → (F : Format) → finish F k ≡ stopped k
+    → scan (space F) at (drop at t) ≡ scan F k (drop k t)
+space_next {t} {at} {k} s F e = s.same (space F) (space_keeps F) ∙ space_over t k F s.stops e
 
--- where all before is there
-there_on : (t : List ℕ) (had : Bool) (at : ℕ) (F : Format) → had ≡ true → goes_on had at F t ≡ scan F at (drop at t)
-unfolding goes_on
-there_on t had at F e = ap (λ (b : Bool). cond b (scan F at (drop at t)) (stopped at)) e
-
-pub mark_gone : (t : List ℕ) (had : Bool) (at action : ℕ) → had ≡ false → at ≤ length t → action ≤ 65535 → MarkRead t had at action false at action
-mark_gone t had at action e h small =
-    record {
-      inside = h;
-      from = omega arith;
-      most = omega arith;
-      same = λ K. gone t had at (mark_format action K) (spell (bytes "</transition>") (K action)) e;
-    }
-
-pub mark_none : (t : List ℕ) (had : Bool) (at action : ℕ) → had ≡ true → mark_opens t at ≡ false → at ≤ length t → action ≤ 65535
-    → MarkRead t had at action true at action
-unfolding mark_format goes_on spell
-mark_none t had at action e n h small =
+pub mark_none : (t : List ℕ) (at action : ℕ) → mark_opens t at ≡ false → at ≤ length t → action ≤ 65535
+    → MarkRead t at action (Ok (record { at = at; value = action }))
+unfolding mark_format spell
+mark_none t at action n h small =
     record {
       inside = h;
       from = omega arith;
       most = omega arith;
       same = λ K.
-          there_on t had at (mark_format action K) e
-          ∙ unmarked t at _ (spell (bytes "/transition>") (K action)) (no_opening t at n)
+          unmarked t at _ (spell (bytes "/transition>") (K action)) (no_opening t at n)
           (λ k. word_firm (bytes "/transition>") (K action) k (omega arith));
     }
 
-pub mark_read : {t : List ℕ} {had : Bool} {at action i k : ℕ} {ok : Bool} → had ≡ true → mark_opens t at ≡ true → action ≤ 65535
-    → Word t true (at + 2) (bytes "oolspecific tool=\"desk\" version=\"1\"/>") ok i → NextSkipped t ok i k → MarkRead t had at action ok k (action + 65536)
-unfolding mark_format goes_on
-mark_read {t} {had} {at} {action} {k = k} e n small p s =
+pub mark_gone : {t : List ℕ} {at action : ℕ} {e : Left} → mark_opens t at ≡ true
+    → Word t (at + 2) (bytes "oolspecific tool=\"desk\" version=\"1\"/>") (Err e) → MarkRead t at action (Err e)
+unfolding mark_format
+mark_gone {t} {at} {action} n p =
+    record {
+      inside = p.inside;
+      from = omega (arith, p.from);
+      most = tt;
+      same = λ K. marked t at _ (spell (bytes "/transition>") (K action)) (opening t at n) ∙ p.same _;
+    }
+
+pub mark_read : {t : List ℕ} {at action i k : ℕ} → mark_opens t at ≡ true → action ≤ 65535
+    → Word t (at + 2) (bytes "oolspecific tool=\"desk\" version=\"1\"/>") (Ok i) → Skipped t i k
+    → MarkRead t at action (Ok (record { at = k; value = action + 65536 }))
+unfolding mark_format
+mark_read {t} {at} {action} {k = k} n small p s =
     record {
       inside = s.inside;
       from = omega (arith, p.from, s.from);
       most = omega arith;
       same = λ K.
-          there_on t had at (mark_format action K) e
-          ∙ marked t at _ (spell (bytes "/transition>") (K action)) (opening t at n)
+          marked t at _ (spell (bytes "/transition>") (K action)) (opening t at n)
           ∙ p.same _
           ∙ space_next s (spell (bytes "</transition>") (K (action + 65536))) (word_firm (bytes "</transition>") (K (action + 65536)) k (omega arith));
     }
 
 -- ---- the end
 
-pub end_gone : (t : List ℕ) (had : Bool) (at action : ℕ) → had ≡ false → at ≤ length t → action ≤ 65535 → EndRead t had at action false at action
-end_gone t had at action e h small =
-    record {
-      inside = h;
-      from = omega arith;
-      most = omega arith;
-      same = λ K. gone t had at (end_format action K) (K action) e;
-    }
-
-pub end_next : {t : List ℕ} {had : Bool} {at action : ℕ} {ok : Bool} {r v : ℕ} → had ≡ true → EndRead t true at action ok r v
-    → EndRead t had at action ok r v
-end_next {t} {had} {at} {action} {ok} {r} {v} e p = subst⁻¹ (λ (b : Bool). EndRead t b at action ok r v) e p
-
-pub end_tags : {t : List ℕ} {at action : ℕ} {a b c d : Bool} {i j k l m n : ℕ} → Word t true at (bytes "</text>") a i → Tag t a i (bytes "</name>") b j
-    → NextSkipped t b j k → MarkRead t b k action c l m → Word t c l (bytes "</transition>") d n → EndRead t true at action d n m
+-- up to the mark
+to_mark : {t : List ℕ} {at i j k l : ℕ} → Word t at (bytes "</text>") (Ok i) → Skipped t i j → Word t j (bytes "</name>") (Ok k) → Skipped t k l
+    → (a : ℕ) (K : ℕ → Format) → scan (end_format a K) at (drop at t) ≡ scan (mark_format a K) l (drop l t)
 unfolding end_format mark_format finish
-end_tags {action = action} {m = m} p q s r u =
-    record {
-      inside = u.inside;
-      from = omega (arith, p.from, q.from, s.from, r.from, u.from);
-      most = r.most;
-      same = λ K. p.same _ ∙ q.same _ ∙ space_next s (mark_format action K) refl ∙ r.same K ∙ u.same (K m);
-    }
+to_mark p s q u a K = p.same _ ∙ (tag_of (bytes "</name>") (omega arith) s q).same _ ∙ space_next u (mark_format a K) refl
+
+module _ {t : List ℕ} {at action : ℕ} where
+  pub end_at_text : {e : Left} → Word t at (bytes "</text>") (Err e) → EndRead t at action (Err e)
+  unfolding end_format
+  end_at_text p = record { inside = p.inside; from = p.from; most = tt; same = λ K. p.same _ }
+
+  pub end_at_name : {i j : ℕ} {e : Left} → Word t at (bytes "</text>") (Ok i) → Skipped t i j → Word t j (bytes "</name>") (Err e)
+      → EndRead t at action (Err e)
+  unfolding end_format
+  end_at_name p s q =
+      let x = tag_of _ (omega arith) s q in
+      record { inside = q.inside; from = omega (arith, p.from, x.from); most = tt; same = λ K. p.same _ ∙ x.same _ }
+
+  module _ {i j k l : ℕ} (p : Word t at (bytes "</text>") (Ok i)) (s : Skipped t i j) (q : Word t j (bytes "</name>") (Ok k)) (u : Skipped t k l) where
+    pub end_at_mark : {e : Left} → MarkRead t l action (Err e) → EndRead t at action (Err e)
+    end_at_mark m =
+        record {
+          inside = m.inside;
+          from = omega (arith, p.from, s.from, q.from, u.from, m.from);
+          most = tt;
+          same = λ K. to_mark p s q u action K ∙ m.same K;
+        }
+
+    pub end_at_tag : {n : Number} {e : Left} → MarkRead t l action (Ok n) → Word t n.at (bytes "</transition>") (Err e) → EndRead t at action (Err e)
+    end_at_tag m w =
+        record {
+          inside = w.inside;
+          from = omega (arith, p.from, s.from, q.from, u.from, m.from, w.from);
+          most = tt;
+          same = λ K. to_mark p s q u action K ∙ m.same K ∙ w.same _;
+        }
+
+    pub end_tags : {n : Number} {r : ℕ} → MarkRead t l action (Ok n) → Word t n.at (bytes "</transition>") (Ok r)
+        → EndRead t at action (Ok (record { at = r; value = n.value }))
+    end_tags {n = n} m w =
+        record {
+          inside = w.inside;
+          from = omega (arith, p.from, s.from, q.from, u.from, m.from, w.from);
+          most = m.most;
+          same = λ K. to_mark p s q u action K ∙ m.same K ∙ w.same (K n.value);
+        }
 
 -- a word that is there, in two
 there_split : (t : List ℕ) (at : ℕ) (u v : List ℕ) → There t at (u ++ v) → There t at u × There t (at + length u) v
@@ -192,50 +209,63 @@ unspaced t at w h =
     passed_all t at at (passed_none t at (omega (arith, h.inside)))
     (λ l. ap (λ (k : ℕ). white (get_or t k 0)) (sym (add-zero at)) ∙ ap white (h.same.each 0 (omega arith) (omega arith)))
 
-tag_there : (t : List ℕ) (at : ℕ) (w : List ℕ) → There t at (60 ∷ w) → Tag t true at (60 ∷ w) true (at + length (60 ∷ w))
-tag_there t at w h = tag_of t at at (60 ∷ w) true (at + length (60 ∷ w)) (omega arith) (unspaced t at w h) (there_word t at (60 ∷ w) h)
-
 -- nor a mark
-mark_there : (t : List ℕ) (at action : ℕ) → There t at (bytes "</transition>") → action ≤ 65535 → MarkRead t true at action true at action
+mark_there : (t : List ℕ) (at action : ℕ) → There t at (bytes "</transition>") → action ≤ 65535
+    → MarkRead t at action (Ok (record { at = at; value = action }))
 mark_there t at action h small =
-    mark_none t true at action refl
+    mark_none t at action
     (failed (mark_opens t at) (λ e. let z : ◌≡◌ {A = ℕ} 116 47 = sym (opening t at e).second ∙ h.same.each 1 (omega arith) (omega arith) in omega arith))
     (omega (arith, h.inside)) small
 
-pub end_there : (t : List ℕ) (had : Bool) (at action : ℕ) → had ≡ true → There t at (bytes "</text></name></transition>") → action ≤ 65535
-    → EndRead t had at action true (at + 27) action
-end_there t had at action e h small =
+pub end_there : (t : List ℕ) (at action : ℕ) → There t at (bytes "</text></name></transition>") → action ≤ 65535
+    → EndRead t at action (Ok (record { at = at + 27; value = action }))
+end_there t at action h small =
     let (x, more) = there_split t at (bytes "</text>") (bytes "</name></transition>") h in
     let (y, z) = there_split t (at + 7) (bytes "</name>") (bytes "</transition>") more in
     let k = at + 7 + 7 in
     let far : at + 7 + 7 + 13 ≡ at + 27 = omega arith in
-    end_next e
-    (subst (λ (r : ℕ). EndRead t true at action true r action) far
-    (end_tags (there_word t at (bytes "</text>") x) (tag_there t (at + 7) (bytes "/name>") y)
-    (blank_next t true k k refl (unspaced t k (bytes "/transition>") z)) (mark_there t k action z small) (there_word t k (bytes "</transition>") z)))
+    subst (λ (r : ℕ). EndRead t at action (Ok (record { at = r; value = action }))) far
+    (end_tags (there_word t at (bytes "</text>") x) (unspaced t (at + 7) (bytes "/name>") y) (there_word t (at + 7) (bytes "</name>") y)
+    (unspaced t k (bytes "/transition>") z) (mark_there t k action z small) (there_word t k (bytes "</transition>") z))
 
 -- ---- the whole transition
 
 abbrev ending : Drawing → ℕ → Format
 ending x a = end_format a (λ y. turn (add_transition x y))
 
-abbrev named : Drawing → Format
-named x = space (spell (bytes "<name>") (space (spell (bytes "<text>") (number 0 65535 (ending x)))))
-
-module _ {t : List ℕ} {at n u v : ℕ} {a b c d f : Bool} {i j k l m : ℕ} where
-  pub transition_of : Headed t at (bytes "ransition id=\"t") n a i → Tag t a i (bytes "<name>") b j → Tag t b j (bytes "<text>") c k
-      → Value t c k 0 65535 d l u → EndRead t d l u f m v → TransitionRead t at n f m v
-  unfolding transition_format head_format end_format mark_format
-  transition_of p q r s e =
+module _ {t : List ℕ} {at n : ℕ} where
+  pub transition_at_front : {e : Left} → Part t at (front_format (bytes "ransition id=\"t") n (bytes "<name>")) (Err e) → TransitionRead t at n (Err e)
+  unfolding transition_format front_format head_format tags_format
+  transition_at_front p =
       record {
-        inside = e.inside;
-        from = omega (arith, p.from, q.from, r.from, s.from, e.from);
-        most = e.most;
-        same = λ x h.
-            ap (λ (y : ℕ). scan (head_format (bytes "ransition id=\"t") y (named x)) at (drop at t)) h
-            ∙ p.same (named x)
-            ∙ q.same _
-            ∙ r.same _
-            ∙ s.same (ending x) (λ y z. word_firm (bytes "</text>") _ z (omega arith))
-            ∙ e.same (λ y. turn (add_transition x y));
+        inside = p.inside;
+        from = p.from;
+        most = tt;
+        same = λ x h. fronted (bytes "ransition id=\"t") (bytes "<name>") p (length x.actions) h _;
       }
+
+  module _ {k : ℕ} (p : Part t at (front_format (bytes "ransition id=\"t") n (bytes "<name>")) (Ok k)) where
+    pub transition_at_action : {e : Left} → Value t k 0 65535 (Err e) → TransitionRead t at n (Err e)
+    unfolding transition_format front_format head_format tags_format end_format mark_format
+    transition_at_action q =
+        record {
+          inside = q.inside;
+          from = omega (arith, p.from, q.from);
+          most = tt;
+          same = λ x h.
+              fronted (bytes "ransition id=\"t") (bytes "<name>") p (length x.actions) h _
+              ∙ q.same (ending x) (λ y z. word_firm (bytes "</text>") _ z (omega arith));
+        }
+
+    pub transition_of : {a : Number} {r : Result Number Left} → Value t k 0 65535 (Ok a) → EndRead t a.at a.value r → TransitionRead t at n r
+    unfolding transition_format front_format head_format tags_format end_format mark_format
+    transition_of q e =
+        record {
+          inside = e.inside;
+          from = omega (arith, p.from, q.from, e.from);
+          most = e.most;
+          same = λ x h.
+              fronted (bytes "ransition id=\"t") (bytes "<name>") p (length x.actions) h _
+              ∙ q.same (ending x) (λ y z. word_firm (bytes "</text>") _ z (omega arith))
+              ∙ e.same (λ y. turn (add_transition x y));
+        }

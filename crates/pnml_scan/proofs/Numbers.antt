@@ -1,7 +1,7 @@
 -- Numbers between two bounds, digit by digit: which digits can follow, and what the scan does with each. For any bounds and text.
 -- Assumes nothing.
-use mathlib.Core.Path.{◌≡◌, refl, sym, ap, ◌∙◌}
-use mathlib.Core.Bool.{Bool, true, false, cond, ◌&&◌, and-false}
+use mathlib.Core.Path.{◌≡◌, refl, sym, ap, ◌∙◌, subst}
+use mathlib.Core.Bool.{Bool, true, false, cond, and-false}
 use mathlib.Core.List.{List, ◌∷◌, ◌++◌}
 use mathlib.Core.Option.{none, some}
 use Prim.Native.Nat.{ℕ, zero, suc, ◌+◌, ◌-◌, ◌*◌, ◌/◌, ◌≤◌, ◌<◌}
@@ -16,7 +16,10 @@ use Rattle.pnml_shape.specs.Machine.{Format, number, digits, digit, begins, poss
 use Rattle.texts.specs.Text.{decimal}
 use Rattle.pnml_shape.proofs.Numbers.{number_on}
 use Rattle.pnml_quick.specs.Serving.{Read}
-use Rattle.pnml_scan.specs.Serving.{goes_on, Firm, Value, Reading, Rest, DigitAt}
+use Rattle.std.specs.Prelude.{Result, Ok, Err, None}
+use Rattle.pnml_quick.specs.declared.Number.{Number}
+use Rattle.pnml_scan.specs.declared.Left.{Left}
+use Rattle.pnml_scan.specs.Serving.{Value, Reading, Rest, ended, DigitIs, DigitAt}
 use Rattle.pnml_scan.proofs.Scan.{taken, refused, at_end, alike}
 
 -- ---- which digits can follow
@@ -148,29 +151,15 @@ module _ (lo hi : ℕ) (K : ℕ → Format) where
   unfolding step
   over_low v b d p = simp (d, lt-leb lo v p)
 
--- ---- the digit at an offset
-
-pub digit_end : (t : List ℕ) (k : ℕ) → length t ≤ k → DigitAt t k 10
-digit_end t k h = record { most = omega arith; read = λ p. absurd (omega arith); other = λ e p. absurd (omega arith) }
-
-pub digit_none : (t : List ℕ) (k : ℕ) → digit (get_or t k 0) ≡ false → DigitAt t k 10
-digit_none t k d = record { most = omega arith; read = λ p. absurd (omega arith); other = λ e p. d }
-
-pub digit_there : (t : List ℕ) (k : ℕ) → k < length t → 48 ≤ get_or t k 0 → get_or t k 0 ≤ 57 → DigitAt t k (get_or t k 0 - 48)
-digit_there t k h p q = record { most = omega arith; read = λ l. (h, omega arith); other = λ e l. absurd (omega arith) }
-
-pub digit_below : {t : List ℕ} {k r : ℕ} → DigitAt t k r → (r ≡ 10 → ⊥) → r < 10
-digit_below d h = omega (arith, d.most)
-
 -- ---- a number in a text
 
 -- a text that has no digit at an offset, or ends there, stops where the format takes nothing else
-stops : (t : List ℕ) (k : ℕ) (F : Format) → ((b : ℕ) → digit b ≡ false → step F b ≡ none) → finish F k ≡ stopped k → (r : ℕ)
-    → DigitAt t k r → r ≡ 10 → scan F k (drop k t) ≡ stopped k
-stops t k F p q r d z = by (ltb k (length t)) refl
+stops : (t : List ℕ) (k : ℕ) (F : Format) → ((b : ℕ) → digit b ≡ false → step F b ≡ none) → finish F k ≡ stopped k → DigitAt t k None
+    → scan F k (drop k t) ≡ stopped k
+stops t k F p q d = by (ltb k (length t)) refl
   where
     by : (b : Bool) → ltb k (length t) ≡ b → scan F k (drop k t) ≡ stopped k
-    by true e = let h = ltb-true k (length t) e in refused t k F h (p (get_or t k 0) (d.other z h))
+    by true e = let h = ltb-true k (length t) e in refused t k F h (p (get_or t k 0) (d h))
     by false e = at_end t k F (ltb-false k (length t) e) ∙ q
 
 -- the digits up to an offset make v
@@ -183,121 +172,138 @@ pub record Made (t : List ℕ) (at n lo hi k v : ℕ) : Type 0 where
 pub made_none : (t : List ℕ) (at n lo hi : ℕ) → Reading t at n hi → Made t at n lo hi at n
 made_none t at n lo hi r = record { inside = r.inside; from = omega arith; most = r.most; same = λ K. refl }
 
-module _ (t : List ℕ) (at n lo hi k v r : ℕ) (m : Made t at n lo hi k v) (d : DigitAt t k r) (l : r < 10) where
+module _ (t : List ℕ) (at n lo hi k v r : ℕ) (m : Made t at n lo hi k v) (d : DigitIs t k r) where
   -- one digit more
   pub made_more : (v ≡ 0 → ⊥) → possible (10 * v + r) lo hi ≡ true → Made t at n lo hi (k + 1) (10 * v + r)
   made_more z p =
-      let h = d.read l in
       record {
-        inside = omega arith;
+        inside = omega (arith, d.inside);
         from = omega (arith, m.from);
         most = possible_most (10 * v + r) lo hi p;
         same = λ K.
             m.same K
-            ∙ taken t k (digits v lo hi K) (digits (10 * v + r) lo hi K) h.0
-            (more_taken lo hi K v (get_or t k 0) r l h.1 (omega arith) p);
+            ∙ taken t k (digits v lo hi K) (digits (10 * v + r) lo hi K) d.inside
+            (more_taken lo hi K v (get_or t k 0) r d.most d.read (omega arith) p);
       }
 
   -- a digit after 0, and one with which no number begins
-  pub made_zero : v ≡ 0 → Rest t at n lo hi false k v
-  unfolding goes_on
+  pub made_zero : v ≡ 0 → Rest t at n lo hi (Err (record { at = k }))
   made_zero z =
-      let h = d.read l in
       record {
         inside = m.inside;
         from = m.from;
-        most = m.most;
-        least = λ e. let f : ◌≡◌ {A = ℕ} 0 1 = cc in omega arith;
-        same = λ K f. m.same K ∙ refused t k (digits v lo hi K) h.0 (more_zero lo hi K v (get_or t k 0) r l h.1 z);
+        most = tt;
+        least = tt;
+        same = λ K f. m.same K ∙ refused t k (digits v lo hi K) d.inside (more_zero lo hi K v (get_or t k 0) r d.most d.read z);
       }
 
-  pub made_hopeless : possible (10 * v + r) lo hi ≡ false → Rest t at n lo hi false k v
-  unfolding goes_on
+  pub made_hopeless : possible (10 * v + r) lo hi ≡ false → Rest t at n lo hi (Err (record { at = k }))
   made_hopeless p =
-      let h = d.read l in
       record {
         inside = m.inside;
         from = m.from;
-        most = m.most;
-        least = λ e. let f : ◌≡◌ {A = ℕ} 0 1 = cc in omega arith;
-        same = λ K f. m.same K ∙ refused t k (digits v lo hi K) h.0 (more_hopeless lo hi K v (get_or t k 0) r l h.1 p);
+        most = tt;
+        least = tt;
+        same = λ K f. m.same K ∙ refused t k (digits v lo hi K) d.inside (more_hopeless lo hi K v (get_or t k 0) r d.most d.read p);
       }
 
 -- no digit more
-pub made_over : (t : List ℕ) (at n lo hi k v r : ℕ) → Made t at n lo hi k v → DigitAt t k r → r ≡ 10 → Rest t at n lo hi (leb lo v) k v
-unfolding goes_on finish
-made_over t at n lo hi k v r m d z =
-    record {
-      inside = m.inside;
-      from = m.from;
-      most = m.most;
-      least = leb-true lo v;
-      same = λ K f. m.same K ∙ by K f (leb lo v) refl;
-    }
+pub made_over : (t : List ℕ) (at n lo hi k v : ℕ) → Made t at n lo hi k v → DigitAt t k None → (r : Result Number Left) → r ≡ ended v lo k
+    → Rest t at n lo hi r
+unfolding ended finish
+made_over t at n lo hi k v m d r e = subst (λ (x : Result Number Left). Rest t at n lo hi x) (sym e) (by (leb lo v) refl)
   where
-    by : (K : ℕ → Format) → Firm K → (b : Bool) → leb lo v ≡ b → scan (digits v lo hi K) k (drop k t) ≡ cond b (scan (K v) k (drop k t)) (stopped k)
-    by K f true e =
-        alike t k (digits v lo hi K) (K v)
-        (λ h. over_within lo hi K v (get_or t k 0) (d.other z h) (leb-true lo v e) m.most)
-        (λ h. sym (f v k))
-    by K f false e = stops t k (digits v lo hi K) (λ b q. over_low lo hi K v b q (leb-false lo v e)) refl r d z
+    by : (b : Bool) → leb lo v ≡ b → Rest t at n lo hi (cond b (Ok (record { at = k; value = v })) (Err (record { at = k })))
+    by true e =
+        record {
+          inside = m.inside;
+          from = m.from;
+          most = m.most;
+          least = leb-true lo v e;
+          same = λ K f.
+              m.same K
+              ∙ alike t k (digits v lo hi K) (K v)
+              (λ h. over_within lo hi K v (get_or t k 0) (d h) (leb-true lo v e) m.most)
+              (λ h. sym (f v k));
+        }
+    by false e =
+        record {
+          inside = m.inside;
+          from = m.from;
+          most = tt;
+          least = tt;
+          same = λ K f. m.same K ∙ stops t k (digits v lo hi K) (λ b q. over_low lo hi K v b q (leb-false lo v e)) refl d;
+        }
+
+pub made_end : (t : List ℕ) (at n lo hi k v : ℕ) → Made t at n lo hi k v → length t ≤ k → (r : Result Number Left) → r ≡ ended v lo (length t)
+    → Rest t at n lo hi r
+made_end t at n lo hi k v m h r e =
+    let z : k ≡ length t = omega (arith, m.inside) in
+    made_over t at n lo hi k v m (λ l. absurd (omega arith)) r (e ∙ ap (λ (i : ℕ). ended v lo i) (sym z))
 
 -- the first digit and the rest
-module _ (t : List ℕ) (at lo hi d : ℕ) (g : DigitAt t at d) where
-  pub value_reading : d < 10 → possible d lo hi ≡ true → Reading t (at + 1) d hi
-  value_reading l p = let h = g.read l in record { inside = omega arith; most = possible_most d lo hi p }
+module _ (t : List ℕ) (at lo hi d : ℕ) (g : DigitIs t at d) where
+  pub value_reading : possible d lo hi ≡ true → Reading t (at + 1) d hi
+  value_reading p = record { inside = omega (arith, g.inside); most = possible_most d lo hi p }
 
-  pub value_of : d < 10 → possible d lo hi ≡ true → {ok : Bool} {r v : ℕ} → Rest t (at + 1) d lo hi ok r v → Value t true at lo hi ok r v
-  unfolding goes_on
-  value_of l p x =
-      let h = g.read l in
+  pub value_of : possible d lo hi ≡ true → {r : Result Number Left} → Rest t (at + 1) d lo hi r → Value t at lo hi r
+  value_of p x =
       record {
         inside = x.inside;
         from = omega (arith, x.from);
         most = x.most;
         least = x.least;
         same = λ K f.
-            taken t at (number lo hi K) (digits d lo hi K) h.0 (first_taken lo hi K (get_or t at 0) d l h.1 p) ∙ x.same K f;
+            taken t at (number lo hi K) (digits d lo hi K) g.inside (first_taken lo hi K (get_or t at 0) d g.most g.read p) ∙ x.same K f;
       }
 
-  pub value_hopeless : at ≤ length t → d < 10 → possible d lo hi ≡ false → Value t true at lo hi false at 0
-  unfolding goes_on
-  value_hopeless i l p =
-      let h = g.read l in
+  pub value_hopeless : possible d lo hi ≡ false → Value t at lo hi (Err (record { at = at }))
+  value_hopeless p =
       record {
-        inside = i;
+        inside = omega (arith, g.inside);
         from = omega arith;
-        most = omega arith;
-        least = λ e. let f : ◌≡◌ {A = ℕ} 0 1 = cc in omega arith;
-        same = λ K f. refused t at (number lo hi K) h.0 (first_hopeless lo hi K (get_or t at 0) d l h.1 p);
+        most = tt;
+        least = tt;
+        same = λ K f. refused t at (number lo hi K) g.inside (first_hopeless lo hi K (get_or t at 0) d g.most g.read p);
       }
 
-pub value_none : (t : List ℕ) (at lo hi r : ℕ) → at ≤ length t → DigitAt t at r → r ≡ 10 → Value t true at lo hi false at 0
-unfolding goes_on finish
-value_none t at lo hi r i d z =
+pub value_none : (t : List ℕ) (at lo hi : ℕ) → at ≤ length t → DigitAt t at None → Value t at lo hi (Err (record { at = at }))
+unfolding finish
+value_none t at lo hi i d =
     record {
       inside = i;
       from = omega arith;
-      most = omega arith;
-      least = λ e. let f : ◌≡◌ {A = ℕ} 0 1 = cc in omega arith;
-      same = λ K f. stops t at (number lo hi K) (first_other lo hi K) refl r d z;
+      most = tt;
+      least = tt;
+      same = λ K f. stops t at (number lo hi K) (first_other lo hi K) refl d;
     }
 
 -- a number that was read whole
-pub value_whole : (t : List ℕ) (at lo hi k v : ℕ) → Read t at lo hi k v → Value t true at lo hi true k v
-unfolding goes_on
-value_whole t at lo hi k v r =
+pub value_whole : (t : List ℕ) (at lo hi : ℕ) (n : Number) → Read t at lo hi n.at n.value → Value t at lo hi (Ok n)
+value_whole t at lo hi n r =
     let s = r.begun in
+    let k : ℕ = n.at in
+    let v : ℕ = n.value in
     let d : drop k t ≡ get_or t k 0 ∷ drop (k + 1) t =
-    drop-cons t k 0 r.follows ∙ ap (λ (n : ℕ). get_or t k 0 ∷ drop n t) (sym (add-one k)) in
+    drop-cons t k 0 r.follows ∙ ap (λ (i : ℕ). get_or t k 0 ∷ drop i t) (sym (add-one k)) in
     record {
       inside = s.inside;
       from = omega (arith, s.size);
       most = r.high;
-      least = λ e. r.low;
+      least = r.low;
       same = λ K f.
           ap (λ (l : List ℕ). scan (number lo hi K) at l) (s.text ∙ ap (λ (l : List ℕ). decimal v ++ l) d)
           ∙ number_on lo hi v K at (get_or t k 0) (drop (k + 1) t) r.low r.high r.over
-          ∙ ap (λ (n : ℕ). scan (K v) n (get_or t k 0 ∷ drop (k + 1) t)) (sym s.size)
+          ∙ ap (λ (i : ℕ). scan (K v) i (get_or t k 0 ∷ drop (k + 1) t)) (sym s.size)
           ∙ ap (λ (l : List ℕ). scan (K v) k l) (sym d);
     }
+
+-- ---- the end of a number
+
+pub ended_there : (v lo at : ℕ) → lo ≤ v → Ok (record { at = at; value = v }) ≡ ended v lo at
+unfolding ended
+ended_there v lo at h = sym (ap (λ (b : Bool). cond b (Ok (record { at = at; value = v })) (Err (record { at = at }))) (le-leb lo v h))
+
+pub ended_low : (v lo at : ℕ) → v < lo → Err (record { at = at }) ≡ ended v lo at
+unfolding ended
+ended_low v lo at h = sym (ap (λ (b : Bool). cond b (Ok (record { at = at; value = v })) (Err (record { at = at }))) (lt-leb lo v h))

@@ -1,86 +1,21 @@
 -- Parts of a text one after another. For any text. Assumes nothing.
-use mathlib.Core.Path.{◌≡◌, refl, sym, ap, ◌∙◌, subst⁻¹}
-use mathlib.Core.Bool.{Bool, true, false, cond}
+use mathlib.Core.Path.{◌≡◌, ap, ◌∙◌}
+use mathlib.Core.Bool.{Bool, false, cond}
 use mathlib.Core.List.{List}
 use mathlib.Core.Option.{some, none}
 use Prim.Native.Nat.{ℕ, ◌≤◌, ◌<◌}
 use native.Mathlib.Omega.{arith}
 use lib.ListN.{length, drop, get_or}
-use lib.Dec.{eqb}
-use borrow.Author.Tests.{eqb-true, eqb-false}
 use Rattle.texts.specs.Text.{bytes}
 use Rattle.pnml_shape.specs.Shape.{white}
 use Rattle.pnml_shape.specs.Drawing.{Drawing}
 use Rattle.pnml_shape.specs.Machine.{Format, ends, spell, space, number, turn, add_place}
-use Rattle.pnml_shape.specs.Machine.{place_format, closing, start, step, stopped, drawn, finish, scan}
-use Rattle.pnml_scan.specs.Serving.{goes_on, Skipped, NextSkipped, Word, Tag, Value, Ended, Opened, Closed}
-use Rattle.pnml_scan.specs.Serving.{PlaceRead}
+use Rattle.pnml_shape.specs.Machine.{place_format, closing, start, step, finish, scan}
+use Rattle.std.specs.Prelude.{Result, Ok, Err}
+use Rattle.pnml_quick.specs.declared.Number.{Number}
+use Rattle.pnml_scan.specs.declared.Left.{Left}
+use Rattle.pnml_scan.specs.Serving.{Part, goes_on, Word, Skipped, Value, Ended, Opened, Closed, PlaceRead}
 use Rattle.pnml_scan.proofs.Scan.{refused, at_end, word_firm, ends_keeps, tag_of}
-
--- ---- after a part that is not there
-
-pub gone : (t : List ℕ) (had : Bool) (at : ℕ) (F G : Format) → had ≡ false → goes_on had at F t ≡ goes_on false at G t
-unfolding goes_on
-gone t had at F G e = ap (λ (b : Bool). cond b (scan F at (drop at t)) (stopped at)) e
-
-pub word_gone : (t : List ℕ) (had : Bool) (at : ℕ) (w : List ℕ) → had ≡ false → at ≤ length t → Word t had at w false at
-word_gone t had at w e h = record { inside = h; from = omega arith; same = λ F. gone t had at (spell w F) F e }
-
-pub value_gone : (t : List ℕ) (had : Bool) (at lo hi : ℕ) → had ≡ false → at ≤ length t → Value t had at lo hi false at 0
-value_gone t had at lo hi e h =
-    record {
-      inside = h;
-      from = omega arith;
-      most = omega arith;
-      least = λ f. let z : ◌≡◌ {A = ℕ} 0 1 = cc in omega arith;
-      same = λ K f. gone t had at (number lo hi K) (K 0) e;
-    }
-
-pub end_gone : (t : List ℕ) (had : Bool) (at : ℕ) → had ≡ false → at ≤ length t → Ended t had at false at
-unfolding goes_on
-end_gone t had at e h = record { inside = h; from = omega arith; same = λ d. gone t had at (ends d) (ends d) e }
-
--- ---- after one that is
-
-pub word_next : {t : List ℕ} {had : Bool} {at : ℕ} {w : List ℕ} {ok : Bool} {r : ℕ} → had ≡ true → Word t true at w ok r → Word t had at w ok r
-word_next {t} {had} {at} {w} {ok} {r} e p = subst⁻¹ (λ (b : Bool). Word t b at w ok r) e p
-
-pub value_next : {t : List ℕ} {had : Bool} {at lo hi : ℕ} {ok : Bool} {r v : ℕ} → had ≡ true → Value t true at lo hi ok r v
-    → Value t had at lo hi ok r v
-value_next {t} {had} {at} {lo} {hi} {ok} {r} {v} e p = subst⁻¹ (λ (b : Bool). Value t b at lo hi ok r v) e p
-
--- white space, then a word
-pub blank_gone : (t : List ℕ) (had : Bool) (at : ℕ) → had ≡ false → at ≤ length t → NextSkipped t had at at
-blank_gone t had at e h =
-    record {
-      inside = h;
-      from = omega arith;
-      skips = λ f. let z : ◌≡◌ {A = ℕ} 0 1 = cc in absurd (omega arith);
-      stays = λ f. refl;
-    }
-
-pub blank_next : (t : List ℕ) (had : Bool) (at r : ℕ) → had ≡ true → Skipped t at r → NextSkipped t had at r
-blank_next t had at r e s =
-    record {
-      inside = s.inside;
-      from = s.from;
-      skips = λ f. s;
-      stays = λ f. let z : ◌≡◌ {A = ℕ} 0 1 = cc in absurd (omega arith);
-    }
-
-pub tag_both : {t : List ℕ} {had : Bool} {at k : ℕ} {w : List ℕ} {ok : Bool} {r : ℕ} → 0 < length w → NextSkipped t had at k → Word t had k w ok r
-    → Tag t had at w ok r
-unfolding goes_on
-tag_both {t} {had} {at} {k} {w} {ok} {r} h s p = by had s p
-  where
-    by : (b : Bool) → NextSkipped t b at k → Word t b k w ok r → Tag t b at w ok r
-    by true s p = tag_of t at k w ok r h (s.skips refl) p
-    by false s p =
-        record {
-          inside = p.inside;
-          from = omega (arith, s.from, p.from);
-          same = λ F. ap stopped (sym (s.stays refl)) ∙ p.same F;
-        }
 
 -- ---- the end of the text
 
@@ -88,111 +23,195 @@ ends_other : (d : Drawing) (b : ℕ) → white b ≡ false → step (ends d) b �
 unfolding step
 ends_other d b w = ap (λ (x : Bool). cond x (some (ends d)) none) w
 
-pub end_next : (t : List ℕ) (had : Bool) (at r : ℕ) → had ≡ true → Skipped t at r → Ended t had at (eqb r (length t)) r
-unfolding goes_on finish
-end_next t had at r e s =
+pub end_there : {t : List ℕ} {at r : ℕ} → Skipped t at r → length t ≤ r → Ended t at (Ok r)
+unfolding finish
+end_there {t} {at} {r} s h =
     record {
       inside = s.inside;
       from = s.from;
-      same = λ d.
-          ap (λ (b : Bool). cond b (scan (ends d) at (drop at t)) (stopped at)) e
-          ∙ s.same (ends d) (ends_keeps d)
-          ∙ by d (eqb r (length t)) refl;
+      same = λ d. s.same (ends d) (ends_keeps d) ∙ at_end t r (ends d) h;
     }
-  where
-    by : (d : Drawing) (b : Bool) → eqb r (length t) ≡ b → scan (ends d) r (drop r t) ≡ cond b (drawn d) (stopped r)
-    by d true e = let z = eqb-true r (length t) e in at_end t r (ends d) (omega arith)
-    by d false e =
-        let z = eqb-false r (length t) e in
-        let h : r < length t = omega (arith, s.inside) in refused t r (ends d) h (ends_other d (get_or t r 0) (s.stops h))
+
+pub end_other : {t : List ℕ} {at r : ℕ} → Skipped t at r → r < length t → Ended t at (Err (record { at = r }))
+end_other {t} {at} {r} s h =
+    record {
+      inside = s.inside;
+      from = s.from;
+      same = λ d. s.same (ends d) (ends_keeps d) ∙ refused t r (ends d) h (ends_other d (get_or t r 0) (s.stops h));
+    }
 
 -- ---- the frame
 
-module _ {t : List ℕ} {a b c : Bool} {i j k : ℕ} where
-  pub opening_of : Word t true 0 (bytes "<pnml xmlns=\"http://www.pnml.org/version-2009/grammar/pnml\">") a i
-      → Tag t a i (bytes "<net id=\"n\" type=\"http://www.pnml.org/version-2009/grammar/ptnet\">") b j
-      → Tag t b j (bytes "<page id=\"g\">") c k → Opened t c k
-  unfolding start goes_on
-  opening_of p q r = record { inside = r.inside; same = p.same _ ∙ q.same _ ∙ r.same _ }
+module _ {t : List ℕ} where
+  pub opening_at_pnml : {e : Left} → Word t 0 (bytes "<pnml xmlns=\"http://www.pnml.org/version-2009/grammar/pnml\">") (Err e) → Opened t (Err e)
+  unfolding start
+  opening_at_pnml p = record { inside = p.inside; same = p.same _ }
 
-  pub closing_of : {at l : ℕ} {d : Bool} → Word t true at (bytes "page>") a i → Tag t a i (bytes "</net>") b j → Tag t b j (bytes "</pnml>") c k
-      → Ended t c k d l → Closed t at d l
-  unfolding closing goes_on
-  closing_of p q r s =
-      record {
-        inside = s.inside;
-        from = omega (arith, p.from, q.from, r.from, s.from);
-        same = λ d. p.same _ ∙ q.same _ ∙ r.same _ ∙ s.same d;
-      }
+  pub opening_at_net : {i j : ℕ} {e : Left} → Word t 0 (bytes "<pnml xmlns=\"http://www.pnml.org/version-2009/grammar/pnml\">") (Ok i)
+      → Skipped t i j → Word t j (bytes "<net id=\"n\" type=\"http://www.pnml.org/version-2009/grammar/ptnet\">") (Err e) → Opened t (Err e)
+  unfolding start
+  opening_at_net p s q = record { inside = q.inside; same = p.same _ ∙ (tag_of _ (omega arith) s q).same _ }
+
+  pub opening_of : {i j k l : ℕ} {r : Result ℕ Left} → Word t 0 (bytes "<pnml xmlns=\"http://www.pnml.org/version-2009/grammar/pnml\">") (Ok i)
+      → Skipped t i j → Word t j (bytes "<net id=\"n\" type=\"http://www.pnml.org/version-2009/grammar/ptnet\">") (Ok k)
+      → Skipped t k l → Word t l (bytes "<page id=\"g\">") r → Opened t r
+  unfolding start
+  opening_of p s q u r =
+      record { inside = r.inside; same = p.same _ ∙ (tag_of _ (omega arith) s q).same _ ∙ (tag_of _ (omega arith) u r).same _ }
+
+-- all but the end of the text
+unfoldable pub closing_format : Format → Format
+closing_format F = spell (bytes "page>") (space (spell (bytes "</net>") (space (spell (bytes "</pnml>") F))))
+
+module _ {t : List ℕ} {at : ℕ} where
+  pub closing_at_page : {e : Left} → Word t at (bytes "page>") (Err e) → Part t at closing_format (Err e)
+  unfolding closing_format
+  closing_at_page p = record { inside = p.inside; from = p.from; same = λ F. p.same _ }
+
+  pub closing_at_net : {i j : ℕ} {e : Left} → Word t at (bytes "page>") (Ok i) → Skipped t i j → Word t j (bytes "</net>") (Err e)
+      → Part t at closing_format (Err e)
+  unfolding closing_format
+  closing_at_net p s q =
+      let x = tag_of _ (omega arith) s q in
+      record { inside = q.inside; from = omega (arith, p.from, x.from); same = λ F. p.same _ ∙ x.same _ }
+
+  pub closing_at_pnml : {i j k l : ℕ} {r : Result ℕ Left} → Word t at (bytes "page>") (Ok i) → Skipped t i j → Word t j (bytes "</net>") (Ok k)
+      → Skipped t k l → Word t l (bytes "</pnml>") r → Part t at closing_format r
+  unfolding closing_format
+  closing_at_pnml p s q u r =
+      let x = tag_of _ (omega arith) s q in
+      let y = tag_of _ (omega arith) u r in
+      record { inside = r.inside; from = omega (arith, p.from, x.from, y.from); same = λ F. p.same _ ∙ x.same _ ∙ y.same _ }
+
+  pub closing_stops : {e : Left} → Part t at closing_format (Err e) → Closed t at (Err e)
+  unfolding closing closing_format
+  closing_stops p = record { inside = p.inside; from = p.from; same = λ d. p.same (ends d) }
+
+  pub closing_of : {k : ℕ} {r : Result ℕ Left} → Part t at closing_format (Ok k) → Ended t k r → Closed t at r
+  unfolding closing closing_format
+  closing_of p q =
+      record { inside = q.inside; from = omega (arith, p.from, q.from); same = λ d. p.same (ends d) ∙ q.same d }
 
 -- ---- elements
 
 -- the start of an element with its number
-unfoldable pub head_format : (word : List ℕ) (n : ℕ) → Format → Format
-head_format word n F = spell word (number n n (λ i. spell (bytes "\">") F))
+unfoldable pub head_format : (word : List ℕ) (n : ℕ) (last : List ℕ) → Format → Format
+head_format word n last F = spell word (number n n (λ i. spell last F))
 
-pub record Headed (t : List ℕ) (at : ℕ) (word : List ℕ) (n : ℕ) (ok : Bool) (r : ℕ) : Type 0 where
-  pub inside : r ≤ length t
-  pub from : at ≤ r
-  pub same : (F : Format) → scan (head_format word n F) at (drop at t) ≡ goes_on ok r F t
+-- two tags
+unfoldable pub tags_format : (first second : List ℕ) → Format → Format
+tags_format first second F = space (spell first (space (spell second F)))
 
--- a number as the text between two tags
-unfoldable pub label_format : (opens : List ℕ) (most : ℕ) (closes : List ℕ) → (ℕ → Format) → Format
-label_format opens most closes K =
-    space (spell opens (space (spell (bytes "<text>") (number 0 most (λ m. spell (bytes "</text>") (space (spell closes (K m))))))))
-
-pub record Labelled (t : List ℕ) (had : Bool) (at : ℕ) (opens : List ℕ) (most : ℕ) (closes : List ℕ) (ok : Bool) (r v : ℕ) : Type 0 where
-  pub inside : r ≤ length t
-  pub from : at ≤ r
-  pub small : v ≤ most
-  pub same : (K : ℕ → Format) → goes_on had at (label_format opens most closes K) t ≡ goes_on ok r (K v) t
+-- all up to the number in an element's text
+unfoldable pub front_format : (word : List ℕ) (n : ℕ) (opens : List ℕ) → Format → Format
+front_format word n opens F = head_format word n (bytes "\">") (tags_format opens (bytes "<text>") F)
 
 module _ {t : List ℕ} {at : ℕ} where
-  pub head_of : {w : List ℕ} {n : ℕ} {a b c : Bool} {i j k v : ℕ} → Word t true at w a i → Value t a i n n b j v → Word t b j (bytes "\">") c k
-      → Headed t at w n c k
-  unfolding head_format goes_on
-  head_of p q r =
+  pub head_at_name : (w : List ℕ) (n : ℕ) (v : List ℕ) {e : Left} → Word t at w (Err e) → Part t at (head_format w n v) (Err e)
+  unfolding head_format
+  head_at_name w n v p = record { inside = p.inside; from = p.from; same = λ F. p.same _ }
+
+  pub head_at_index : (w v : List ℕ) {n i : ℕ} {e : Left} → 0 < length v → Word t at w (Ok i) → Value t i n n (Err e) → Part t at (head_format w n v) (Err e)
+  unfolding head_format
+  head_at_index w v h p q =
       record {
-        inside = r.inside;
-        from = omega (arith, p.from, q.from, r.from);
-        same = λ F. p.same _ ∙ q.same (λ i. spell (bytes "\">") F) (λ v a. word_firm (bytes "\">") F a (omega arith)) ∙ r.same F;
+        inside = q.inside;
+        from = omega (arith, p.from, q.from);
+        same = λ F. p.same _ ∙ q.same (λ i. spell v F) (λ x a. word_firm v F a h);
       }
 
-  pub label_of : {had : Bool} {o : List ℕ} {m : ℕ} {e : List ℕ} {a b c d f : Bool} {i j k l n v : ℕ}
-      → Tag t had at o a i → Tag t a i (bytes "<text>") b j → Value t b j 0 m c k v → Word t c k (bytes "</text>") d l
-      → Tag t d l e f n → Labelled t had at o m e f n v
-  unfolding label_format
-  label_of {e = e} p q r s u =
+  pub head_of : (w v : List ℕ) {n i : ℕ} {x : Number} {r : Result ℕ Left} → 0 < length v → Word t at w (Ok i) → Value t i n n (Ok x) → Word t x.at v r
+      → Part t at (head_format w n v) r
+  unfolding head_format
+  head_of w v h p q u =
       record {
         inside = u.inside;
-        from = omega (arith, p.from, q.from, r.from, s.from, u.from);
-        small = r.most;
-        same = λ K.
-            p.same _
-            ∙ q.same _
-            ∙ r.same (λ m. spell (bytes "</text>") (space (spell e (K m))))
-            (λ v a. word_firm (bytes "</text>") (space (spell e (K v))) a (omega arith))
-            ∙ s.same _
+        from = omega (arith, p.from, q.from, u.from);
+        same = λ F. p.same _ ∙ q.same (λ i. spell v F) (λ x a. word_firm v F a h) ∙ u.same F;
+      }
+
+  pub tags_at_first : (v w : List ℕ) {i : ℕ} {e : Left} → 0 < length v → Skipped t at i → Word t i v (Err e) → Part t at (tags_format v w) (Err e)
+  unfolding tags_format
+  tags_at_first v w h s p = let x = tag_of _ h s p in record { inside = x.inside; from = x.from; same = λ F. x.same _ }
+
+  pub tags_of : (v w : List ℕ) {i j k : ℕ} {r : Result ℕ Left} → 0 < length v → 0 < length w → Skipped t at i → Word t i v (Ok j)
+      → Skipped t j k → Word t k w r → Part t at (tags_format v w) r
+  unfolding tags_format
+  tags_of v w g h s p u q =
+      let x = tag_of _ g s p in
+      let y = tag_of _ h u q in
+      record { inside = y.inside; from = omega (arith, x.from, y.from); same = λ F. x.same _ ∙ y.same F }
+
+  pub front_at_head : (w : List ℕ) (n : ℕ) (o : List ℕ) {e : Left} → Part t at (head_format w n (bytes "\">")) (Err e) → Part t at (front_format w n o) (Err e)
+  unfolding front_format
+  front_at_head w n o p = record { inside = p.inside; from = p.from; same = λ F. p.same _ }
+
+  pub front_of : (w : List ℕ) (n : ℕ) (o : List ℕ) {k : ℕ} {r : Result ℕ Left} → Part t at (head_format w n (bytes "\">")) (Ok k)
+      → Part t k (tags_format o (bytes "<text>")) r → Part t at (front_format w n o) r
+  unfolding front_format
+  front_of w n o p q = record { inside = q.inside; from = omega (arith, p.from, q.from); same = λ F. p.same _ ∙ q.same F }
+
+-- ---- places
+
+-- what follows a place's mark
+unfoldable pub back_format : Format → Format
+back_format F = spell (bytes "</text>") (tags_format (bytes "</initialMarking>") (bytes "</place>") F)
+
+module _ {t : List ℕ} {at : ℕ} where
+  pub back_at_text : {e : Left} → Word t at (bytes "</text>") (Err e) → Part t at back_format (Err e)
+  unfolding back_format
+  back_at_text p = record { inside = p.inside; from = p.from; same = λ F. p.same _ }
+
+  pub back_of : {k : ℕ} {r : Result ℕ Left} → Word t at (bytes "</text>") (Ok k)
+      → Part t k (tags_format (bytes "</initialMarking>") (bytes "</place>")) r → Part t at back_format r
+  unfolding back_format
+  back_of p q = record { inside = q.inside; from = omega (arith, p.from, q.from); same = λ F. p.same _ ∙ q.same F }
+
+  -- the place's own number is any that equals the one that was read
+  pub fronted : {n : ℕ} (w o : List ℕ) {r : Result ℕ Left} → Part t at (front_format w n o) r → (m : ℕ) → m ≡ n → (F : Format)
+      → scan (front_format w m o F) at (drop at t) ≡ goes_on r F t
+  fronted w o p m e F = ap (λ (x : ℕ). scan (front_format w x o F) at (drop at t)) e ∙ p.same F
+
+  pub place_at_front : {n : ℕ} {e : Left} → Part t at (front_format (bytes "lace id=\"p") n (bytes "<initialMarking>")) (Err e) → PlaceRead t at n (Err e)
+  unfolding place_format front_format head_format tags_format
+  place_at_front p =
+      record { inside = p.inside; from = p.from; most = tt; same = λ d e. fronted (bytes "lace id=\"p") (bytes "<initialMarking>") p (length d.marks) e _ }
+
+  pub place_at_mark : {n k : ℕ} {e : Left} → Part t at (front_format (bytes "lace id=\"p") n (bytes "<initialMarking>")) (Ok k)
+      → Value t k 0 1 (Err e) → PlaceRead t at n (Err e)
+  unfolding place_format front_format head_format tags_format
+  place_at_mark p q =
+      record {
+        inside = q.inside;
+        from = omega (arith, p.from, q.from);
+        most = tt;
+        same = λ d e. fronted (bytes "lace id=\"p") (bytes "<initialMarking>") p (length d.marks) e _ ∙ q.same _ (λ v a. word_firm (bytes "</text>") _ a (omega arith));
+      }
+
+  pub place_at_back : {n k : ℕ} {x : Number} {e : Left} → Part t at (front_format (bytes "lace id=\"p") n (bytes "<initialMarking>")) (Ok k)
+      → Value t k 0 1 (Ok x) → Part t x.at back_format (Err e) → PlaceRead t at n (Err e)
+  unfolding place_format front_format head_format tags_format back_format
+  place_at_back p q u =
+      record {
+        inside = u.inside;
+        from = omega (arith, p.from, q.from, u.from);
+        most = tt;
+        same = λ d e.
+            fronted (bytes "lace id=\"p") (bytes "<initialMarking>") p (length d.marks) e _
+            ∙ q.same (λ m. back_format (turn (add_place d m))) (λ v a. word_firm (bytes "</text>") _ a (omega arith))
             ∙ u.same _;
       }
 
-  -- head and label, with any number that equals the one that was read
-  element : {w : List ℕ} {n : ℕ} {o : List ℕ} {m : ℕ} {e : List ℕ} {v : ℕ} {a b : Bool} {i j : ℕ}
-      → Headed t at w n a i → Labelled t a i o m e b j v → (n' : ℕ) → n' ≡ n → (K : ℕ → Format)
-      → scan (head_format w n' (label_format o m e K)) at (drop at t) ≡ goes_on b j (K v) t
-  element {w = w} {o = o} {m = m} {e = e} p q n' h K =
-      ap (λ (y : ℕ). scan (head_format w y (label_format o m e K)) at (drop at t)) h
-      ∙ p.same (label_format o m e K)
-      ∙ q.same K
-
-  pub place_of : {n v : ℕ} {a b c : Bool} {i j k : ℕ} → Headed t at (bytes "lace id=\"p") n a i
-      → Labelled t a i (bytes "<initialMarking>") 1 (bytes "</initialMarking>") b j v → Tag t b j (bytes "</place>") c k → PlaceRead t at n c k v
-  unfolding place_format head_format label_format
-  place_of {v = v} p q r =
+  pub place_of : {n k l : ℕ} {x : Number} → Part t at (front_format (bytes "lace id=\"p") n (bytes "<initialMarking>")) (Ok k)
+      → Value t k 0 1 (Ok x) → Part t x.at back_format (Ok l) → PlaceRead t at n (Ok (record { at = l; value = x.value }))
+  unfolding place_format front_format head_format tags_format back_format
+  place_of {x = x} p q u =
       record {
-        inside = r.inside;
-        from = omega (arith, p.from, q.from, r.from);
-        most = q.small;
+        inside = u.inside;
+        from = omega (arith, p.from, q.from, u.from);
+        most = q.most;
         same = λ d e.
-            element p q (length d.marks) e (λ m. space (spell (bytes "</place>") (turn (add_place d m)))) ∙ r.same (turn (add_place d v));
+            fronted (bytes "lace id=\"p") (bytes "<initialMarking>") p (length d.marks) e _
+            ∙ q.same (λ m. back_format (turn (add_place d m))) (λ v a. word_firm (bytes "</text>") _ a (omega arith))
+            ∙ u.same (turn (add_place d x.value));
       }

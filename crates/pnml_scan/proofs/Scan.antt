@@ -15,7 +15,9 @@ use Rattle.pnml_shape.specs.Shape.{white}
 use Rattle.pnml_shape.specs.Drawing.{Drawing}
 use Rattle.pnml_shape.specs.Machine.{Format, ends, byte, space, turn, spell, opened, step, stopped, finish, or_stop, scan}
 use Rattle.pnml_quick.specs.Serving.{There}
-use Rattle.pnml_scan.specs.Serving.{goes_on, Keeps, Skipped, Word, Tag}
+use Rattle.std.specs.Prelude.{Result, Ok, Err}
+use Rattle.pnml_scan.specs.declared.Left.{Left}
+use Rattle.pnml_scan.specs.Serving.{Keeps, Part, Skipped, Word}
 
 -- ---- any format
 
@@ -98,8 +100,8 @@ spelled_more t at w i s h k e =
 
 -- the text ends in the word
 pub spelled_short : (t : List ℕ) (at : ℕ) (w : List ℕ) (i : ℕ) → Spelled t at w i → i < length w → length t ≤ at + i
-    → Word t true at w false (at + i)
-unfolding goes_on finish
+    → Word t at w (Err (record { at = at + i }))
+unfolding finish
 spelled_short t at w i s h k =
     record {
       inside = s.inside;
@@ -112,8 +114,7 @@ spelled_short t at w i s h k =
 
 -- another byte than the word's
 pub spelled_other : (t : List ℕ) (at : ℕ) (w : List ℕ) (i : ℕ) → Spelled t at w i → i < length w → at + i < length t
-    → (get_or t (at + i) 0 ≡ get_or w i 0 → ⊥) → Word t true at w false (at + i)
-unfolding goes_on
+    → (get_or t (at + i) 0 ≡ get_or w i 0 → ⊥) → Word t at w (Err (record { at = at + i }))
 spelled_other t at w i s h k e =
     record {
       inside = s.inside;
@@ -126,13 +127,17 @@ spelled_other t at w i s h k e =
     }
 
 -- the whole word
-pub spelled_all : (t : List ℕ) (at : ℕ) (w : List ℕ) (i : ℕ) → Spelled t at w i → length w ≤ i → Word t true at w true (at + i)
-unfolding goes_on spell
+pub spelled_all : (t : List ℕ) (at : ℕ) (w : List ℕ) (i : ℕ) → Spelled t at w i → length w ≤ i → Word t at w (Ok (at + length w))
+unfolding spell
 spelled_all t at w i s h =
+    let e : i ≡ length w = omega (arith, s.part) in
     record {
-      inside = s.inside;
+      inside = omega (arith, s.inside);
       from = omega arith;
-      same = λ F. s.same F ∙ ap (λ (l : List ℕ). scan (spell l F) (at + i) (drop (at + i) t)) (drop_of_length-le w h);
+      same = λ F.
+          s.same F
+          ∙ ap (λ (l : List ℕ). scan (spell l F) (at + i) (drop (at + i) t)) (drop_of_length-le w h)
+          ∙ ap (λ (n : ℕ). scan F (at + n) (drop (at + n) t)) e;
     }
 
 -- so it is where its bytes are there
@@ -142,7 +147,7 @@ there_spelled t at w h (suc i) p =
     subst (λ (n : ℕ). Spelled t at w n) (add-one i)
     (spelled_more t at w i (there_spelled t at w h i (omega arith)) (omega arith) (omega (arith, h.inside)) (h.same.each i (omega arith) (omega arith)))
 
-pub there_word : (t : List ℕ) (at : ℕ) (w : List ℕ) → There t at w → Word t true at w true (at + length w)
+pub there_word : (t : List ℕ) (at : ℕ) (w : List ℕ) → There t at w → Word t at w (Ok (at + length w))
 there_word t at w h = spelled_all t at w (length w) (there_spelled t at w h (length w) (omega arith)) (omega arith)
 
 -- ---- white space
@@ -190,9 +195,9 @@ word_firm [] F k h = absurd (omega arith)
 word_firm (b ∷ w) F k h = refl
 
 -- white space, then a word
-pub tag_of : (t : List ℕ) (at k : ℕ) (w : List ℕ) (ok : Bool) (r : ℕ) → 0 < length w → Skipped t at k → Word t true k w ok r → Tag t true at w ok r
-unfolding goes_on
-tag_of t at k w ok r h s p =
+pub tag_of : {t : List ℕ} {at k : ℕ} (w : List ℕ) {r : Result ℕ Left} → 0 < length w → Skipped t at k → Word t k w r
+    → Part t at (λ F. space (spell w F)) r
+tag_of {t} {at} {k} w h s p =
     record {
       inside = p.inside;
       from = omega (arith, s.from, p.from);

@@ -1,58 +1,45 @@
 // The parts of a PNML text, one after another: words, white space, numbers, and the elements made of these.
 #![tactic(auto)]
 
-ghost use Rattle.std.specs.Prelude.{◌+◌, ◌*◌, ◌^◌, ◌≤◌, ◌<◌, ◌≡◌, true, length};
+ghost use Rattle.std.specs.Prelude.{◌+◌, ◌*◌, ◌^◌, ◌≤◌, ◌<◌, ◌≡◌, length};
 ghost use Rattle.pnml_shape.specs.Shape as shape;
 ghost use Rattle.pnml_shape.specs.Machine as machine;
 ghost use Rattle.pnml_scan.specs.Serving as serving;
 
-// Where a part of the text ends: whether it is there, and the offset after it, or the offset of the first byte that is not.
+pub use pnml_quick::Number;
+
+// Where a text leaves the shape: the offset of the first byte that is not there.
 #[derive(Clone, Copy)]
-pub struct Part {
-    pub ok: bool,
+pub struct Left {
     pub at: usize,
 }
 
-// The same with the number that was read.
-#[derive(Clone, Copy)]
-pub struct Numbered {
-    pub ok: bool,
-    pub at: usize,
-    pub value: usize,
-}
-
-// These bytes, one by one.
-fn literal_by_bytes(text: &[u8], at: usize, word: &[u8]) -> Part
+// These bytes, one by one: the offset after them.
+#[cold]
+#[inline(never)]
+fn literal_by_bytes(text: &[u8], at: usize, word: &[u8]) -> Result<usize, Left>
     requires { at ≤ length text.now }
-    ensures { serving.Word text.now true at word.now result.ok result.at }
+    ensures { serving.Word text.now at word.now result }
 {
-    let mut i = 0;
-    while i < word.len() {
+    for i in 0..word.len() {
         let k = at + i;
         if k >= text.len() {
-            return Part { ok: false, at: k };
+            return Err(Left { at: k });
         }
         if text[k] != word[i] {
-            return Part { ok: false, at: k };
+            return Err(Left { at: k });
         }
-        i += 1;
     }
-    Part {
-        ok: true,
-        at: at + i,
-    }
+    Ok(at + word.len())
 }
 
-// These bytes. One by one only where they are not there, for the offset.
-pub fn literal(text: &[u8], at: usize, word: &[u8]) -> Part
+// These bytes: the offset after them. One by one only where they are not there, for the offset.
+pub fn literal(text: &[u8], at: usize, word: &[u8]) -> Result<usize, Left>
     requires { at ≤ length text.now }
-    ensures { serving.Word text.now true at word.now result.ok result.at }
+    ensures { serving.Word text.now at word.now result }
 {
     if pnml_quick::there(text, at, word) {
-        return Part {
-            ok: true,
-            at: at + word.len(),
-        };
+        return Ok(at + word.len());
     }
     literal_by_bytes(text, at, word)
 }
@@ -61,7 +48,7 @@ pub fn literal(text: &[u8], at: usize, word: &[u8]) -> Part
 fn white(b: u8) -> bool
     ensures { result ≡ shape.white b }
 {
-    ((b == 32) | (b == 9)) | ((b == 13) | (b == 10))
+    ((b == b' ') | (b == b'\t')) | ((b == b'\r') | (b == b'\n'))
 }
 
 // The offset after the white space.
@@ -69,14 +56,12 @@ pub fn blank(text: &[u8], at: usize) -> usize
     requires { at ≤ length text.now }
     ensures { serving.Skipped text.now at result }
 {
-    let mut i = at;
-    while i < text.len() {
+    for i in at..text.len() {
         if !white(text[i]) {
             return i;
         }
-        i += 1;
     }
-    i
+    text.len()
 }
 
 // ---- numbers
@@ -113,220 +98,146 @@ fn digit_follows(v: usize, d: usize, lo: usize, hi: usize) -> bool
     possible(10 * v + d, lo, hi)
 }
 
-// The digit at an offset, or 10 where there is none.
-fn digit(text: &[u8], at: usize) -> usize
+// The digit at an offset, where there is one.
+fn digit(text: &[u8], at: usize) -> Option<usize>
     ensures { serving.DigitAt text.now at result }
 {
-    if at >= text.len() {
-        return 10;
+    let b = *text.get(at)?;
+    if b < b'0' {
+        return None;
     }
-    let b = text[at];
-    if b < 48 {
-        return 10;
+    if b > b'9' {
+        return None;
     }
-    if b > 57 {
-        return 10;
+    Some(usize::from(b - b'0'))
+}
+
+// A number that ends at an offset, if it is not too low.
+fn ended(v: usize, lo: usize, at: usize) -> Result<Number, Left>
+    ensures { result ≡ serving.ended v lo at }
+{
+    if lo <= v {
+        return Ok(Number { at, value: v });
     }
-    (b - 48) as usize
+    Err(Left { at })
 }
 
 // The rest of a number from lo to hi, after digits that make n.
-fn more_digits(text: &[u8], at: usize, n: usize, lo: usize, hi: usize) -> Numbered
+fn more_digits(text: &[u8], at: usize, n: usize, lo: usize, hi: usize) -> Result<Number, Left>
     requires { serving.Reading text.now at n hi }
-    ensures { serving.Rest text.now at n lo hi result.ok result.at result.value }
+    ensures { serving.Rest text.now at n lo hi result }
 {
-    let mut k = at;
     let mut v = n;
-    loop {
-        let d = digit(text, k);
-        if d == 10 {
-            return Numbered {
-                ok: lo <= v,
-                at: k,
-                value: v,
-            };
-        }
+    for k in at..text.len() {
+        let Some(d) = digit(text, k) else {
+            return ended(v, lo, k);
+        };
         if v == 0 {
-            return Numbered {
-                ok: false,
-                at: k,
-                value: v,
-            };
+            return Err(Left { at: k });
         }
         if !digit_follows(v, d, lo, hi) {
-            return Numbered {
-                ok: false,
-                at: k,
-                value: v,
-            };
+            return Err(Left { at: k });
         }
         v = 10 * v + d;
-        k += 1;
     }
+    ended(v, lo, text.len())
 }
 
 // A number from lo to hi, shortest, digit by digit.
-fn number_by_digits(text: &[u8], at: usize, lo: usize, hi: usize) -> Numbered
+#[cold]
+#[inline(never)]
+fn number_by_digits(text: &[u8], at: usize, lo: usize, hi: usize) -> Result<Number, Left>
     requires { at ≤ length text.now }
-    ensures { serving.Value text.now true at lo hi result.ok result.at result.value }
+    ensures { serving.Value text.now at lo hi result }
 {
-    let d = digit(text, at);
-    if d == 10 {
-        return Numbered {
-            ok: false,
-            at: at,
-            value: 0,
-        };
-    }
+    let Some(d) = digit(text, at) else {
+        return Err(Left { at });
+    };
     if !possible(d, lo, hi) {
-        return Numbered {
-            ok: false,
-            at: at,
-            value: 0,
-        };
+        return Err(Left { at });
     }
     more_digits(text, at + 1, d, lo, hi)
 }
 
-// A number from lo to hi, shortest. Digit by digit only where it is not found, for the offset.
-pub fn number(text: &[u8], at: usize, lo: usize, hi: usize) -> Numbered
+// A number from lo to hi, shortest. Digit by digit only where it is not found at once: that stays a call, and the rest is made part of the
+// code that calls it.
+pub fn number(text: &[u8], at: usize, lo: usize, hi: usize) -> Result<Number, Left>
     requires { at ≤ length text.now }
-    ensures { serving.Value text.now true at lo hi result.ok result.at result.value }
+    ensures { serving.Value text.now at lo hi result }
 {
-    let n = pnml_quick::whole_number(text, at, lo, hi);
-    if n.ok {
-        return Numbered {
-            ok: true,
-            at: n.at,
-            value: n.value,
-        };
+    if let Some(n) = pnml_quick::whole_number(text, at, lo, hi) {
+        return Ok(n);
     }
     number_by_digits(text, at, lo, hi)
 }
 
-// ---- one part after another: where the part before is not there, its end is the end
-
-// These bytes.
-fn next_literal(text: &[u8], had: bool, at: usize, word: &[u8]) -> Part
-    requires { at ≤ length text.now }
-    ensures { serving.Word text.now had at word.now result.ok result.at }
-{
-    if !had {
-        return Part { ok: false, at: at };
-    }
-    literal(text, at, word)
-}
-
-// White space. A tag is this and a word: as two calls, each is made part of the code that calls it.
-fn next_blank(text: &[u8], had: bool, at: usize) -> usize
-    requires { at ≤ length text.now }
-    ensures { serving.NextSkipped text.now had at result }
-{
-    if !had {
-        return at;
-    }
-    blank(text, at)
-}
-
-// A number from lo to hi. One that is not found at once is left to `number`, which goes by digits and stays a call: so this much is made
-// part of the code that calls it.
-fn next_number(text: &[u8], had: bool, at: usize, lo: usize, hi: usize) -> Numbered
-    requires { at ≤ length text.now }
-    ensures { serving.Value text.now had at lo hi result.ok result.at result.value }
-{
-    if !had {
-        return Numbered {
-            ok: false,
-            at: at,
-            value: 0,
-        };
-    }
-    let n = pnml_quick::whole_number(text, at, lo, hi);
-    if n.ok {
-        return Numbered {
-            ok: true,
-            at: n.at,
-            value: n.value,
-        };
-    }
-    number(text, at, lo, hi)
-}
-
-// White space and the end of the text.
-fn next_end(text: &[u8], had: bool, at: usize) -> Part
-    requires { at ≤ length text.now }
-    ensures { serving.Ended text.now had at result.ok result.at }
-{
-    if !had {
-        return Part { ok: false, at: at };
-    }
-    let end = blank(text, at);
-    Part {
-        ok: end == text.len(),
-        at: end,
-    }
-}
-
 // ---- the frame
 
-// All before the first element.
-pub fn opening(text: &[u8]) -> Part
-    ensures { serving.Opened text.now result.ok result.at }
+// White space and the end of the text: its offset.
+fn end(text: &[u8], at: usize) -> Result<usize, Left>
+    requires { at ≤ length text.now }
+    ensures { serving.Ended text.now at result }
+{
+    let end = blank(text, at);
+    if end < text.len() {
+        return Err(Left { at: end });
+    }
+    Ok(end)
+}
+
+// All before the first element. White space and a word after it are two calls: so each is made part of the code that calls it.
+pub fn opening(text: &[u8]) -> Result<usize, Left>
+    ensures { serving.Opened text.now result }
 {
     let pnml = literal(
         text,
         0,
         b"<pnml xmlns=\"http://www.pnml.org/version-2009/grammar/pnml\">",
-    );
-    let first = next_blank(text, pnml.ok, pnml.at);
-    let net = next_literal(
+    )?;
+    let first = blank(text, pnml);
+    let net = literal(
         text,
-        pnml.ok,
         first,
         b"<net id=\"n\" type=\"http://www.pnml.org/version-2009/grammar/ptnet\">",
-    );
-    let second = next_blank(text, net.ok, net.at);
-    next_literal(text, net.ok, second, b"<page id=\"g\">")
+    )?;
+    let second = blank(text, net);
+    literal(text, second, b"<page id=\"g\">")
 }
 
 // The end of the text from `</` of the page on.
-pub fn closing(text: &[u8], at: usize) -> Part
+pub fn closing(text: &[u8], at: usize) -> Result<usize, Left>
     requires { at ≤ length text.now }
-    ensures { serving.Closed text.now at result.ok result.at }
+    ensures { serving.Closed text.now at result }
 {
-    let page = literal(text, at, b"page>");
-    let first = next_blank(text, page.ok, page.at);
-    let net = next_literal(text, page.ok, first, b"</net>");
-    let second = next_blank(text, net.ok, net.at);
-    let pnml = next_literal(text, net.ok, second, b"</pnml>");
-    next_end(text, pnml.ok, pnml.at)
+    let page = literal(text, at, b"page>")?;
+    let first = blank(text, page);
+    let net = literal(text, first, b"</net>")?;
+    let second = blank(text, net);
+    let pnml = literal(text, second, b"</pnml>")?;
+    end(text, pnml)
 }
 
 // ---- places and transitions
 
 // A place from `<p` on, with its mark.
-pub fn place(text: &[u8], at: usize, places: usize) -> Numbered
+pub fn place(text: &[u8], at: usize, places: usize) -> Result<Number, Left>
     requires { at ≤ length text.now }
-    ensures { serving.PlaceRead text.now at places result.ok result.at result.value }
+    ensures { serving.PlaceRead text.now at places result }
 {
-    let name = literal(text, at, b"lace id=\"p");
-    let index = next_number(text, name.ok, name.at, places, places);
-    let start = next_literal(text, index.ok, index.at, b"\">");
-    let first = next_blank(text, start.ok, start.at);
-    let opens = next_literal(text, start.ok, first, b"<initialMarking>");
-    let second = next_blank(text, opens.ok, opens.at);
-    let inner = next_literal(text, opens.ok, second, b"<text>");
-    let mark = next_number(text, inner.ok, inner.at, 0, 1);
-    let over = next_literal(text, mark.ok, mark.at, b"</text>");
-    let third = next_blank(text, over.ok, over.at);
-    let closes = next_literal(text, over.ok, third, b"</initialMarking>");
-    let fourth = next_blank(text, closes.ok, closes.at);
-    let end = next_literal(text, closes.ok, fourth, b"</place>");
-    Numbered {
-        ok: end.ok,
-        at: end.at,
-        value: mark.value,
-    }
+    let name = literal(text, at, b"lace id=\"p")?;
+    let index = number(text, name, places, places)?;
+    let start = literal(text, index.at, b"\">")?;
+    let first = blank(text, start);
+    let opens = literal(text, first, b"<initialMarking>")?;
+    let second = blank(text, opens);
+    let inner = literal(text, second, b"<text>")?;
+    let mark = number(text, inner, 0, 1)?;
+    let over = literal(text, mark.at, b"</text>")?;
+    let third = blank(text, over);
+    let closes = literal(text, third, b"</initialMarking>")?;
+    let fourth = blank(text, closes);
+    let at = literal(text, fourth, b"</place>")?;
+    Ok(Number { at, ..mark })
 }
 
 // Whether `<t` is there, as the mark of an optional transition begins.
@@ -337,91 +248,67 @@ fn mark_opens(text: &[u8], at: usize) -> bool
     if text.len() - at < 2 {
         return false;
     }
-    (text[at] == 60) & (text[at + 1] == 116)
+    (text[at] == b'<') & (text[at + 1] == b't')
 }
 
 // That mark and the white space after it, where it begins. The value is the action, with the mark 65,536 more.
-fn next_mark(text: &[u8], had: bool, at: usize, action: usize) -> Numbered
+fn mark(text: &[u8], at: usize, action: usize) -> Result<Number, Left>
     requires { (at ≤ length text.now) × (action ≤ 65535) }
-    ensures { serving.MarkRead text.now had at action result.ok result.at result.value }
+    ensures { serving.MarkRead text.now at action result }
 {
-    if !had {
-        return Numbered {
-            ok: false,
-            at: at,
-            value: action,
-        };
-    }
     if !mark_opens(text, at) {
-        return Numbered {
-            ok: true,
-            at: at,
-            value: action,
-        };
+        return Ok(Number { at, value: action });
     }
-    let mark = literal(text, at + 2, b"oolspecific tool=\"desk\" version=\"1\"/>");
-    let next = next_blank(text, mark.ok, mark.at);
-    Numbered {
-        ok: mark.ok,
-        at: next,
+    let mark = literal(text, at + 2, b"oolspecific tool=\"desk\" version=\"1\"/>")?;
+    let at = blank(text, mark);
+    Ok(Number {
+        at,
         value: action + 65536,
-    }
+    })
 }
 
 // All after a transition's action, tag by tag. The value is the action, for an optional transition 65,536 more.
-fn end_by_tags(text: &[u8], at: usize, action: usize) -> Numbered
+fn ending_by_tags(text: &[u8], at: usize, action: usize) -> Result<Number, Left>
     requires { (at ≤ length text.now) × (action ≤ 65535) }
-    ensures { serving.EndRead text.now true at action result.ok result.at result.value }
+    ensures { serving.EndRead text.now at action result }
 {
-    let over = literal(text, at, b"</text>");
-    let first = next_blank(text, over.ok, over.at);
-    let closes = next_literal(text, over.ok, first, b"</name>");
-    let second = next_blank(text, closes.ok, closes.at);
-    let mark = next_mark(text, closes.ok, second, action);
-    let end = next_literal(text, mark.ok, mark.at, b"</transition>");
-    Numbered {
-        ok: end.ok,
-        at: end.at,
-        value: mark.value,
-    }
+    let over = literal(text, at, b"</text>")?;
+    let first = blank(text, over);
+    let closes = literal(text, first, b"</name>")?;
+    let second = blank(text, closes);
+    let entry = mark(text, second, action)?;
+    let at = literal(text, entry.at, b"</transition>")?;
+    Ok(Number { at, ..entry })
 }
 
 // All after a transition's action. Tag by tag only where white space or a mark stands between, or something is not there.
-fn next_ending(text: &[u8], had: bool, at: usize, action: usize) -> Numbered
+fn ending(text: &[u8], at: usize, action: usize) -> Result<Number, Left>
     requires { (at ≤ length text.now) × (action ≤ 65535) }
-    ensures { serving.EndRead text.now had at action result.ok result.at result.value }
+    ensures { serving.EndRead text.now at action result }
 {
-    if !had {
-        return Numbered {
-            ok: false,
-            at: at,
-            value: action,
-        };
-    }
     if pnml_quick::there(text, at, b"</text></name></transition>") {
-        return Numbered {
-            ok: true,
+        return Ok(Number {
             at: at + 27,
             value: action,
-        };
+        });
     }
-    end_by_tags(text, at, action)
+    ending_by_tags(text, at, action)
 }
 
 // A transition from `<t` on, with its action, for an optional one 65,536 more.
-pub fn transition(text: &[u8], at: usize, transitions: usize) -> Numbered
+pub fn transition(text: &[u8], at: usize, transitions: usize) -> Result<Number, Left>
     requires { at ≤ length text.now }
-    ensures { serving.TransitionRead text.now at transitions result.ok result.at result.value }
+    ensures { serving.TransitionRead text.now at transitions result }
 {
-    let name = literal(text, at, b"ransition id=\"t");
-    let index = next_number(text, name.ok, name.at, transitions, transitions);
-    let start = next_literal(text, index.ok, index.at, b"\">");
-    let first = next_blank(text, start.ok, start.at);
-    let opens = next_literal(text, start.ok, first, b"<name>");
-    let second = next_blank(text, opens.ok, opens.at);
-    let inner = next_literal(text, opens.ok, second, b"<text>");
-    let action = next_number(text, inner.ok, inner.at, 0, 65535);
-    next_ending(text, action.ok, action.at, action.value)
+    let name = literal(text, at, b"ransition id=\"t")?;
+    let index = number(text, name, transitions, transitions)?;
+    let start = literal(text, index.at, b"\">")?;
+    let first = blank(text, start);
+    let opens = literal(text, first, b"<name>")?;
+    let second = blank(text, opens);
+    let inner = literal(text, second, b"<text>")?;
+    let action = number(text, inner, 0, 65535)?;
+    ending(text, action.at, action.value)
 }
 
 // ---- arcs
@@ -434,20 +321,11 @@ pub struct Arc {
     pub place: usize,
 }
 
-// Where an arc ends, and the arc.
+// An arc, and the offset after it.
 #[derive(Clone, Copy)]
 pub struct ArcRead {
-    pub ok: bool,
     pub at: usize,
     pub arc: Arc,
-}
-
-// Where the letter of an arc's source ends, and whether it is a transition's.
-#[derive(Drop)]
-struct Source {
-    ok: bool,
-    at: usize,
-    post: bool,
 }
 
 // The least arc that can follow this one.
@@ -458,9 +336,8 @@ pub fn arc_after(places: usize, a: Arc) -> Arc
 {
     if a.place + 1 < places {
         return Arc {
-            transition: a.transition,
-            post: a.post,
             place: a.place + 1,
+            ..a
         };
     }
     if a.post {
@@ -471,9 +348,9 @@ pub fn arc_after(places: usize, a: Arc) -> Arc
         };
     }
     Arc {
-        transition: a.transition,
         post: true,
         place: 0,
+        ..a
     }
 }
 
@@ -517,93 +394,73 @@ fn post_into(least: Arc, transition: usize) -> usize
     0
 }
 
-// The letter of a source: a place's where that is open, or a transition's.
-fn next_source(text: &[u8], had: bool, at: usize, pre: bool) -> Source
+// The letter of a source: whether it is a transition's, and not a place's, which may stand where that is open.
+fn source(text: &[u8], at: usize, pre: bool) -> Result<bool, Left>
     requires { at ≤ length text.now }
-    ensures { serving.Sourced text.now had at pre result.ok result.at result.post }
+    ensures { serving.Sourced text.now at pre result }
 {
-    if !had {
-        return Source {
-            ok: false,
-            at: at,
-            post: false,
-        };
-    }
     if at >= text.len() {
-        return Source {
-            ok: false,
-            at: at,
-            post: false,
-        };
+        return Err(Left { at });
     }
     let b = text[at];
-    if b == 116 {
-        return Source {
-            ok: true,
-            at: at + 1,
-            post: true,
-        };
+    if b == b't' {
+        return Ok(true);
     }
-    if !((b == 112) & pre) {
-        return Source {
-            ok: false,
-            at: at,
-            post: false,
-        };
+    if !((b == b'p') & pre) {
+        return Err(Left { at });
     }
-    Source {
-        ok: true,
-        at: at + 1,
-        post: false,
-    }
+    Ok(false)
 }
 
-// The rest of an arc into a transition, from its place's number on.
-fn pre_ends(text: &[u8], at: usize, places: usize, transitions: usize, least: Arc) -> ArcRead
+// The rest of an arc into a transition, from its place's number on. This and `post_ends` differ in both bounds, the letter and which number is
+// first, so one function for both would be no plainer.
+fn pre_ends(
+    text: &[u8],
+    at: usize,
+    places: usize,
+    transitions: usize,
+    least: Arc,
+) -> Result<ArcRead, Left>
     requires at_in_bounds { at ≤ length text.now }
     requires fact { serving.Open places transitions (serving.arc_of least) }
-    ensures { serving.PreRead text.now at places transitions (serving.arc_of least) result.ok result.at (serving.arc_of result.arc) }
+    ensures { serving.PreRead text.now at places transitions (serving.arc_of least) result }
 {
-    let low = pre_from(transitions, least);
-    let place = number(text, at, low, places - 1);
-    let target = next_literal(text, place.ok, place.at, b"\" target=\"t");
-    let into = pre_into(transitions, least, place.value);
-    let transition = next_number(text, target.ok, target.at, into, transitions - 1);
-    let end = next_literal(text, transition.ok, transition.at, b"\"/>");
+    let place = number(text, at, pre_from(transitions, least), places - 1)?;
+    let target = literal(text, place.at, b"\" target=\"t")?;
+    let low = pre_into(transitions, least, place.value);
+    let transition = number(text, target, low, transitions - 1)?;
+    let at = literal(text, transition.at, b"\"/>")?;
     let arc = Arc {
         transition: transition.value,
         post: false,
         place: place.value,
     };
-    ArcRead {
-        ok: end.ok,
-        at: end.at,
-        arc: arc,
-    }
+    Ok(ArcRead { at, arc })
 }
 
 // The rest of an arc out of a transition, from the transition's number on.
-fn post_ends(text: &[u8], at: usize, places: usize, transitions: usize, least: Arc) -> ArcRead
+fn post_ends(
+    text: &[u8],
+    at: usize,
+    places: usize,
+    transitions: usize,
+    least: Arc,
+) -> Result<ArcRead, Left>
     requires at_in_bounds { at ≤ length text.now }
     requires fact { serving.Open places transitions (serving.arc_of least) }
-    ensures { serving.PostRead text.now at places transitions (serving.arc_of least) result.ok result.at (serving.arc_of result.arc) }
+    ensures { serving.PostRead text.now at places transitions (serving.arc_of least) result }
 {
-    let low = least.transition;
-    let transition = number(text, at, low, transitions - 1);
-    let target = next_literal(text, transition.ok, transition.at, b"\" target=\"p");
-    let into = post_into(least, transition.value);
-    let place = next_number(text, target.ok, target.at, into, places - 1);
-    let end = next_literal(text, place.ok, place.at, b"\"/>");
+    let transition = number(text, at, least.transition, transitions - 1)?;
+    let target = literal(text, transition.at, b"\" target=\"p")?;
+    let low = post_into(least, transition.value);
+    let place = number(text, target, low, places - 1)?;
+    let at = literal(text, place.at, b"\"/>")?;
     let arc = Arc {
         transition: transition.value,
         post: true,
         place: place.value,
     };
-    ArcRead {
-        ok: end.ok,
-        at: end.at,
-        arc: arc,
-    }
+    Ok(ArcRead { at, arc })
 }
 
 // An arc from `<a` on, not below the least one.
@@ -614,25 +471,17 @@ pub fn read_arc(
     places: usize,
     transitions: usize,
     least: Arc,
-) -> ArcRead
+) -> Result<ArcRead, Left>
     requires at_in_bounds { at ≤ length text.now }
     requires fact { serving.Open places transitions (serving.arc_of least) }
-    ensures { serving.ArcAt text.now at arcs places transitions (serving.arc_of least) result.ok result.at (serving.arc_of result.arc) }
+    ensures { serving.ArcAt text.now at arcs places transitions (serving.arc_of least) result }
 {
-    let name = literal(text, at, b"rc id=\"a");
-    let index = next_number(text, name.ok, name.at, arcs, arcs);
-    let middle = next_literal(text, index.ok, index.at, b"\" source=\"");
-    let pre = pre_open(transitions, least);
-    let source = next_source(text, middle.ok, middle.at, pre);
-    let from = source.at;
-    if !source.ok {
-        return ArcRead {
-            ok: false,
-            at: from,
-            arc: least,
-        };
-    }
-    if source.post {
+    let name = literal(text, at, b"rc id=\"a")?;
+    let index = number(text, name, arcs, arcs)?;
+    let middle = literal(text, index.at, b"\" source=\"")?;
+    let post = source(text, middle, pre_open(transitions, least))?;
+    let from = middle + 1;
+    if post {
         return post_ends(text, from, places, transitions, least);
     }
     pre_ends(text, from, places, transitions, least)

@@ -1,11 +1,11 @@
 -- The answer of writing a net with a marking as PNML, by the numbers of documents 01 and 02 (F-1). Assumes nothing.
-use Rattle.std.specs.Prelude.{ℕ, cond, List, ◌++◌, length, drop, eqb, ltb}
+use Rattle.std.specs.Prelude.{ℕ, cond, List, ◌++◌, Result, Ok, Err, length, drop, eqb, ltb}
 use Rattle.net.specs.Table.{net_of}
 use Rattle.net.specs.Answer.{Fault, no_fault, fault, refusal, load_fault}
 use Rattle.pnml_shape.specs.Drawing.{written}
 use Rattle.pnml_net.specs.Nets.{drawing_of}
-use Rattle.pnml_write.specs.declared.Written.{Written}
-use Rattle.pnml_write.specs.declared.Written.TheVariants.{Length, Short, Refused}
+use Rattle.pnml_write.specs.declared.WriteRefusal.{WriteRefusal}
+use Rattle.pnml_write.specs.declared.WriteRefusal.TheVariants.{Net, Short}
 
 -- the number, 0 where granted; the record; the length of the text, 0 where refused; and the room after
 pub record Answer : Type 0 where
@@ -24,18 +24,20 @@ grant n room = record { number = 0; place = 0; length = n; room = room }
 
 -- ---- what the code's answer says
 
-unfoldable pub found_of : Written → Fault
-found_of (Length n) = no_fault
-found_of Short = fault 12 0
-found_of (Refused r) = refusal r
+abbrev pub refused : WriteRefusal → Fault
+refused (Net r) = refusal r
+refused Short = fault 12 0
 
-unfoldable pub length_of : Written → ℕ
-length_of (Length n) = n
-length_of Short = 0
-length_of (Refused r) = 0
+unfoldable pub found_of : Result ℕ WriteRefusal → Fault
+found_of (Ok n) = no_fault
+found_of (Err r) = refused r
+
+unfoldable pub length_of : Result ℕ WriteRefusal → ℕ
+length_of (Ok n) = n
+length_of (Err r) = 0
 
 -- with this room after
-abbrev pub answer_of : Written → List ℕ → Answer
+abbrev pub answer_of : Result ℕ WriteRefusal → List ℕ → Answer
 answer_of w room = record { number = (found_of w).number; place = (found_of w).place; length = length_of w; room = room }
 
 -- ---- what it has to say

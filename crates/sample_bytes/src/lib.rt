@@ -1,10 +1,12 @@
 // The bytes of samples: numbers and bytes written at an offset of a table, where what lies past the table's end is left off, and what a room holds.
 #![tactic(auto)]
 
-ghost use Rattle.std.specs.Prelude.{◌≡◌, length};
+ghost use Rattle.std.specs.Prelude.{◌≡◌, ◌-◌, drop, length};
 ghost use Rattle.std.proofs.lemmas.List.Edits.{sets};
 ghost use Rattle.sample_bytes.specs.Bytes.{bytes};
 ghost use Rattle.sample_bytes.specs.Rooms as rooms;
+
+use std::fmt;
 
 // ---- tables
 
@@ -12,17 +14,10 @@ ghost use Rattle.sample_bytes.specs.Rooms as rooms;
 pub fn put_number(table: &mut [u8], at: usize, size: usize, n: u64)
     ensures { table.new ≡ sets table.old at (bytes size n) }
 {
-    let mut k = at;
-    let mut left = size;
     let mut rest = n;
-    while 0 < left {
-        if table.len() <= k {
-            return;
-        }
+    for k in at..at.saturating_add(size).min(table.len()) {
         table[k] = (rest % 256) as u8;
         rest /= 256;
-        k += 1;
-        left -= 1;
     }
 }
 
@@ -30,16 +25,9 @@ pub fn put_number(table: &mut [u8], at: usize, size: usize, n: u64)
 pub fn put_bytes(table: &mut [u8], at: usize, part: &[u8])
     ensures { table.new ≡ sets table.old at part.now }
 {
-    let mut k = at;
-    let mut j = 0;
-    while j < part.len() {
-        if table.len() <= k {
-            return;
-        }
-        table[k] = part[j];
-        k += 1;
-        j += 1;
-    }
+    let from = at.min(table.len());
+    let size = part.len().min(table.len() - from);
+    table[from..from + size].copy_from_slice(&part[..size]);
 }
 
 // ---- what a room holds
@@ -48,29 +36,20 @@ pub fn put_bytes(table: &mut [u8], at: usize, part: &[u8])
 pub fn count(room: &[u8], b: u8) -> usize
     ensures { result ≡ rooms.count b room.now (length room.now) }
 {
-    let mut n: usize = 0;
-    let mut i = 0;
-    while i < room.len() {
-        if room[i] == b {
-            n += 1;
-        }
-        i += 1;
-    }
-    n
+    room.iter().filter(|byte| **byte == b).count()
 }
 
-// How many of the first bytes of two rooms are the same.
+// How many of the first bytes of two rooms are the same. By an index, since what std says of `take_while` does not say why it stopped.
 pub fn alike(a: &[u8], b: &[u8]) -> usize
     ensures { result ≡ rooms.alike a.now b.now }
 {
-    let mut i = 0;
-    while (i < a.len()) & (i < b.len()) {
+    let most = a.len().min(b.len());
+    for i in 0..most {
         if a[i] != b[i] {
             return i;
         }
-        i += 1;
     }
-    i
+    most
 }
 
 // A sum in which each byte counts by its place.
@@ -78,10 +57,38 @@ pub fn checksum(room: &[u8]) -> u64
     ensures { result ≡ rooms.checksum room.now (length room.now) }
 {
     let mut sum: u64 = 0;
-    let mut i = 0;
-    while i < room.len() {
-        sum = (sum * 257 + room[i] as u64) % 1000003;
-        i += 1;
+    for byte in room {
+        sum = (sum * 257 + u64::from(*byte)) % 1000003;
     }
     sum
+}
+
+// ---- what a call left
+
+// The byte that fills a room before a call.
+pub const FILL: u8 = 170;
+
+// How much of the rest of a room is as it was before a call: so many bytes, of so many.
+#[derive(Clone, Copy)]
+pub struct Stayed {
+    pub same: usize,
+    pub of: usize,
+}
+
+// That of the bytes from an offset on.
+pub fn kept(room: &[u8], from: usize) -> Stayed
+    ensures same { result.same ≡ rooms.count FILL (drop from room.now) (length room.now - from) }
+    ensures of { result.of ≡ length room.now - from }
+{
+    let rest = &room[from.min(room.len())..];
+    Stayed {
+        same: count(rest, FILL),
+        of: rest.len(),
+    }
+}
+
+impl fmt::Display for Stayed {
+    fn fmt<W: fmt::Write>(&self, f: &mut fmt::Formatter<W>) -> fmt::Result {
+        write!(f, ", kept {} of {}", self.same, self.of)
+    }
 }

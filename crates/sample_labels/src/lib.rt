@@ -5,15 +5,17 @@ ghost use Rattle.std.specs.Prelude.{◌≡◌, ◌*◌};
 ghost use Rattle.std.proofs.lemmas.List.Edits.{sets};
 ghost use Rattle.sample_labels.specs.Files as files;
 
+use sample_bytes::{put_bytes, put_number};
+
 // A category record; a text of more than 24 bytes is cut.
 pub fn record(action: u16, kind: u8, lender: u16, text: &[u8]) -> [u8; 32]
     ensures { result ≡ files.record_of action kind lender text.now }
 {
     let mut record = [0u8; 32];
-    sample_bytes::put_number(&mut record, 0, 2, action as u64);
+    put_number(&mut record, 0, 2, u64::from(action));
     record[2] = kind;
-    sample_bytes::put_number(&mut record, 4, 2, lender as u64);
-    sample_bytes::put_bytes(&mut record, 8, text);
+    put_number(&mut record, 4, 2, u64::from(lender));
+    put_bytes(&mut record, 8, text);
     record
 }
 
@@ -22,17 +24,15 @@ pub fn put_record(file: &mut [u8], i: u32, action: u16, kind: u8, lender: u16, t
     ensures { file.new ≡ sets file.old (i * 32) (files.record_of action kind lender text.now) }
 {
     let bytes = record(action, kind, lender, text);
-    sample_bytes::put_bytes(file, i as usize * 32, &bytes);
+    put_bytes(file, i as usize * 32, &bytes);
 }
 
 // Writes n records with the actions from 0 on, each with a text of one letter, A to Z in turn.
 pub fn fill(file: &mut [u8], n: u16)
     ensures { file.new ≡ files.filled n file.old }
 {
-    let mut i: u16 = 0;
-    while i < n {
-        let letter = [65 + (i % 26) as u8];
-        put_record(file, i as u32, i, 0, 0, &letter);
-        i += 1;
+    for i in 0..n {
+        let letter = b'A' + (i % 26) as u8;
+        put_record(file, u32::from(i), i, 0, 0, &[letter]);
     }
 }

@@ -5,16 +5,16 @@ ghost use Rattle.std.specs.Prelude.{◌≡◌, ◌*◌};
 ghost use Rattle.std.proofs.lemmas.List.Edits.{sets};
 ghost use Rattle.sample_nets.specs.Tables as tables;
 
-use net::Checked;
+use sample_bytes::{put_bytes, put_number};
 
 // The record of a pressed transition.
 pub fn transition(pre: u64, post: u64, action: u16) -> [u8; 24]
     ensures { result ≡ tables.transition pre post action }
 {
     let mut record = [0u8; 24];
-    sample_bytes::put_number(&mut record, 0, 8, pre);
-    sample_bytes::put_number(&mut record, 8, 8, post);
-    sample_bytes::put_number(&mut record, 16, 2, action as u64);
+    put_number(&mut record, 0, 8, pre);
+    put_number(&mut record, 8, 8, post);
+    put_number(&mut record, 16, 2, u64::from(action));
     record
 }
 
@@ -22,11 +22,8 @@ pub fn transition(pre: u64, post: u64, action: u16) -> [u8; 24]
 pub fn optional(pre: u64, post: u64, action: u16) -> [u8; 24]
     ensures { result ≡ tables.optional pre post action }
 {
-    let mut record = [0u8; 24];
-    sample_bytes::put_number(&mut record, 0, 8, pre);
-    sample_bytes::put_number(&mut record, 8, 8, post);
-    sample_bytes::put_number(&mut record, 16, 2, action as u64);
-    sample_bytes::put_number(&mut record, 18, 1, 1);
+    let mut record = transition(pre, post, action);
+    record[18] = 1;
     record
 }
 
@@ -35,7 +32,7 @@ pub fn put_transition(table: &mut [u8], t: u32, pre: u64, post: u64, action: u16
     ensures { table.new ≡ sets table.old (t * 24) (tables.transition pre post action) }
 {
     let record = transition(pre, post, action);
-    sample_bytes::put_bytes(table, t as usize * 24, &record);
+    put_bytes(table, t as usize * 24, &record);
 }
 
 // Net R.
@@ -54,7 +51,7 @@ pub fn net_optional(t: u8) -> [u8; 72]
     ensures { result ≡ tables.optional_r t }
 {
     let mut table = net_r();
-    sample_bytes::put_number(&mut table, t as usize * 24 + 18, 1, 1);
+    put_bytes(&mut table, usize::from(t) * 24 + 18, &[1]);
     table
 }
 
@@ -73,15 +70,12 @@ pub fn net_three() -> [u8; 72]
 pub fn conflicts(places: u32, net: &[u8], t: u32) -> u64
     ensures { result ≡ tables.conflicts_in places net.now t }
 {
-    if let Checked::Refused(_) = net::check_table(places, net) {
+    let Ok(()) = net::check_table(places, net) else {
         return 0;
-    }
+    };
     let decoded = net::decode(places, net);
-    let count = decoded.transitions;
-    if count <= t {
+    if decoded.transitions <= t {
         return 0;
     }
-    let pre = decoded.pre;
-    let post = decoded.post;
-    net::conflicts(t, count, &pre, &post)
+    decoded.conflicts(t)
 }

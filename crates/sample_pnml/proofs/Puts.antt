@@ -1,14 +1,12 @@
 -- Bytes put one after the other, and how many they are. Assumes nothing.
-use Prim.Native.Nat.{ℕ, zero, suc, ◌+◌, ◌*◌, ◌-◌, ◌/◌, ◌%◌, ◌≤◌, ◌<◌}
+use Prim.Native.Nat.{ℕ, zero, suc, ◌+◌, ◌*◌, ◌/◌, ◌%◌, ◌≤◌, ◌<◌}
 use mathlib.Core.Path.{◌≡◌, refl, sym, ap, subst, ◌∙◌}
-use mathlib.Core.Bool.{Bool, true, false, not, ◌||◌}
+use mathlib.Core.Bool.{Bool, true, false}
 use mathlib.Core.List.{List, [], ◌∷◌, ◌++◌}
 use native.Mathlib.Numerals.{add-one}
 use native.Mathlib.Omega.{arith}
 use lib.ListN.{length, get_or, set, length-append}
-use lib.Dec.{eqb, ltb}
 use lib.Seq.{sets}
-use borrow.Author.Tests.{lt-ltb, le-ltb, eq-eqb, ne_eqb}
 use Rattle.texts.specs.Text.{decimal}
 use Rattle.texts.proofs.Digits.{decimal_one, decimal_more, byte_length}
 use Rattle.sample_pnml.specs.Built.{Put, element, elements, tag_ends, padded, spaced, often}
@@ -114,9 +112,6 @@ more_often part n p q = rw add-one (join p q)
 
 -- ---- all of them
 
-pub all_elements : {l l' : List ℕ} {at r : ℕ} (o c : List ℕ) {i n : ℕ} → i ≤ n → n ≤ i → Put l l' at (elements o c i) r → Put l l' at (elements o c n) r
-all_elements o c {i} {n} a b p = let d : i ≡ n = omega arith in recast (ap (λ (k : ℕ). elements o c k) d) p
-
 pub all_spaced : {l l' : List ℕ} {r : ℕ} (text : List ℕ) {i n : ℕ} → i ≤ n → n ≤ i → Put l l' 0 (spaced text i) r → Put l l' 0 (spaced text n) r
 all_spaced text {i} {n} a b p = let d : i ≡ n = omega arith in recast (ap (λ (k : ℕ). spaced text k) d) p
 
@@ -132,18 +127,3 @@ pad b ends h = rw h
 pub no_pad : (b : ℕ) (ends : Bool) → ends ≡ false → b ∷ [] ≡ padded b ends
 unfolding padded
 no_pad b ends h = rw h
-
--- ---- whether a tag ends
-
-pub no_end : (text : List ℕ) (i : ℕ) → (get_or text i 0 ≡ 62 → ⊥) → false ≡ tag_ends text i
-unfolding tag_ends
-no_end text i h = let t = ne_eqb (get_or text i 0) 62 h in rw t
-
-pub short_end : (text : List ℕ) (i : ℕ) → get_or text i 0 ≡ 62 → i < 5 → true ≡ tag_ends text i
-unfolding tag_ends
-short_end text i h k = let t = eq-eqb (get_or text i 0) 62 h in let s = lt-ltb i 5 k in rw (t, s)
-
-pub long_end : (text : List ℕ) (i : ℕ) → get_or text i 0 ≡ 62 → 5 ≤ i
-    → (not (eqb (get_or text (i - 5) 0) 60) || not (eqb (get_or text (i - 4) 0) 116)) ≡ tag_ends text i
-unfolding tag_ends
-long_end text i h k = let t = eq-eqb (get_or text i 0) 62 h in let s = le-ltb i 5 k in rw (t, s)

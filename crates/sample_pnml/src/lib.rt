@@ -27,9 +27,9 @@ fn put_decimal(room: &mut [u8], at: usize, n: u8) -> usize
     ensures { built.Put room.old room.new at (texts.decimal n) result }
 {
     if n < 10 {
-        return put_part(room, at, &[48 + n]);
+        return put_part(room, at, &[b'0' + n]);
     }
-    put_part(room, at, &[48 + n / 10, 48 + n % 10])
+    put_part(room, at, &[b'0' + n / 10, b'0' + n % 10])
 }
 
 // Puts an element with this number between its opening and its closing.
@@ -48,10 +48,8 @@ fn put_elements(room: &mut [u8], at: usize, opening: &[u8], closing: &[u8], n: u
     ensures { built.Put room.old room.new at (built.elements opening.now closing.now n) result }
 {
     let mut next = at;
-    let mut i: u8 = 0;
-    while i < n {
+    for i in 0..n {
         next = put_element(room, next, opening, i, closing);
-        i += 1;
     }
     next
 }
@@ -92,13 +90,7 @@ fn tag_ends(text: &[u8], i: usize) -> bool
     requires { i < length text.now }
     ensures { result ≡ built.tag_ends text.now i }
 {
-    if text[i] != b'>' {
-        return false;
-    }
-    if i < 5 {
-        return true;
-    }
-    (text[i - 5] != b'<') | (text[i - 4] != b't')
+    text[i] == b'>' && (i < 5 || text[i - 5] != b'<' || text[i - 4] != b't')
 }
 
 // Puts a text with white space after each tag but `<text>`, and answers its length.
@@ -107,10 +99,8 @@ pub fn put_spaced(room: &mut [u8], text: &[u8]) -> usize
     ensures { built.Put room.old room.new 0 (built.spaced text.now (length text.now)) result }
 {
     let mut at = 0;
-    let mut i = 0;
-    while i < text.len() {
-        at = put_byte(room, at, text[i], tag_ends(text, i));
-        i += 1;
+    for (i, byte) in text.iter().enumerate() {
+        at = put_byte(room, at, *byte, tag_ends(text, i));
     }
     at
 }
@@ -132,10 +122,8 @@ pub fn put_often(table: &mut [u8], part: &[u8], n: u8)
     ensures { table.new ≡ sets table.old 0 (built.often part.now n) }
 {
     let mut at = 0;
-    let mut i: u8 = 0;
-    while i < n {
+    for _ in 0..n {
         at = put_part(table, at, part);
-        i += 1;
     }
 }
 

@@ -2,10 +2,9 @@
 use mathlib.Core.Path.{◌≡◌, refl, sym, ap, ap₂, ◌∙◌}
 use mathlib.Core.List.{List, [], ◌∷◌, ◌++◌, append-nil}
 use Prim.Native.Nat.{ℕ, zero, suc, ◌+◌, ◌*◌, ◌≤◌, ◌<◌}
-use native.Mathlib.Nat.{add-zero, add-suc, suc-add}
 use native.Mathlib.Numerals.{add-one}
 use native.Mathlib.Omega.{arith}
-use lib.ListN.{length, drop, get_or, set, replicate, drop_of_length-le}
+use lib.ListN.{length, drop, get_or, replicate, drop_of_length-le}
 use lib.Seq.{sets, sets-eq, drop-cons}
 use Rattle.texts.proofs.Buffers.{sets_append}
 use Rattle.sample_bytes.specs.Bytes.{bytes}

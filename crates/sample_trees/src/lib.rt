@@ -11,10 +11,10 @@ pub fn formula(operator: u8, left: u16, right: u16, action: u16) -> [u8; 8]
     ensures { result ≡ tables.formula operator left right action }
 {
     let mut bytes = [0u8; 8];
-    put_number(&mut bytes, 0, 2, operator as u64);
-    put_number(&mut bytes, 2, 2, left as u64);
-    put_number(&mut bytes, 4, 2, right as u64);
-    put_number(&mut bytes, 6, 2, action as u64);
+    put_number(&mut bytes, 0, 2, u64::from(operator));
+    put_number(&mut bytes, 2, 2, u64::from(left));
+    put_number(&mut bytes, 4, 2, u64::from(right));
+    put_number(&mut bytes, 6, 2, u64::from(action));
     bytes
 }
 
@@ -35,13 +35,13 @@ pub fn ask(marking: u64, formula: u16, places: u8, side: u8) -> [u8; 12]
 {
     let mut bytes = [0u8; 12];
     put_number(&mut bytes, 0, 8, marking);
-    put_number(&mut bytes, 8, 2, formula as u64);
-    put_number(&mut bytes, 10, 1, places as u64);
-    put_number(&mut bytes, 11, 1, side as u64);
+    put_number(&mut bytes, 8, 2, u64::from(formula));
+    put_number(&mut bytes, 10, 1, u64::from(places));
+    put_number(&mut bytes, 11, 1, u64::from(side));
     bytes
 }
 
-// A node's record.
+// A node's record, by its fields in their order: so a row of a table is a line.
 pub fn node(
     marking: u64,
     anchor: u64,
@@ -62,19 +62,19 @@ pub fn node(
     put_number(&mut bytes, 0, 8, marking);
     put_number(&mut bytes, 8, 8, anchor);
     put_number(&mut bytes, 16, 8, kept);
-    put_number(&mut bytes, 24, 4, parent as u64);
-    put_number(&mut bytes, 28, 4, first as u64);
-    put_number(&mut bytes, 32, 2, formula as u64);
-    put_number(&mut bytes, 34, 1, children as u64);
-    put_number(&mut bytes, 35, 1, rule as u64);
-    put_number(&mut bytes, 36, 1, side as u64);
-    put_number(&mut bytes, 37, 1, phase as u64);
-    put_number(&mut bytes, 38, 1, round as u64);
-    put_number(&mut bytes, 39, 1, transition as u64);
+    put_number(&mut bytes, 24, 4, u64::from(parent));
+    put_number(&mut bytes, 28, 4, u64::from(first));
+    put_number(&mut bytes, 32, 2, u64::from(formula));
+    put_number(&mut bytes, 34, 1, u64::from(children));
+    put_number(&mut bytes, 35, 1, u64::from(rule));
+    put_number(&mut bytes, 36, 1, u64::from(side));
+    put_number(&mut bytes, 37, 1, u64::from(phase));
+    put_number(&mut bytes, 38, 1, u64::from(round));
+    put_number(&mut bytes, 39, 1, u64::from(transition));
     bytes
 }
 
-// Node k of R's tree, zeros where there is none.
+// Node k of R's tree, zeros where there is none. The match is the table that `node_r` of specs/ has.
 pub fn node_r(k: usize) -> [u8; 40]
     ensures { result ≡ tables.node_r k }
 {
@@ -111,10 +111,8 @@ pub fn tree_r() -> [u8; 920]
     ensures { result ≡ tables.tree_r }
 {
     let mut tree = [0u8; 920];
-    let mut k = 0;
-    while k < 23 {
+    for k in 0..23 {
         put_bytes(&mut tree, k * 40, &node_r(k));
-        k += 1;
     }
     tree
 }

@@ -1,15 +1,17 @@
--- The samples of a walk: the walks to start with, the calls by number, and what is answered or read after them. Assumes nothing.
-use Rattle.std.specs.Prelude.{ℕ, zero, suc, cond, List, ◌∷◌, get_or, replicate, eqb, ltb}
+-- The samples of a walk: the walks to start with, the calls, and what is answered or read after them. Assumes nothing.
+use Rattle.std.specs.Prelude.{ℕ, zero, suc, cond, List, ◌∷◌, get_or, replicate, ltb}
 use Rattle.net.specs.declared.Numbers.{Numbers}
 use Rattle.net.specs.Answer.{Answer}
 use Rattle.walk.specs.declared.Walk.{Walk}
 use Rattle.walk.specs.State.{empty}
 use Rattle.walk.specs.Calls.{load_walk, loaded_answer, read_marking, read_count, read_next}
-use Rattle.walk.specs.History.{Call, load, fire, reset, called, fire_all}
+use Rattle.walk.specs.History.{Call as Made, load, fire, reset, called, fire_all}
 use Rattle.sample_nets.specs.Tables.{transition, net_r, optional_r, net_three}
 use Rattle.sample_walks.specs.declared.Hand.{Hand}
 use Rattle.sample_walks.specs.declared.Seen.{Seen}
 use Rattle.sample_walks.specs.declared.Fields.{Fields}
+use Rattle.sample_walks.specs.declared.Call.{Call}
+use Rattle.sample_walks.specs.declared.Call.TheVariants.{Fire, Reset, LoadR, LoadBeyond, LoadForward, LoadOptional, LoadThree}
 use Rattle.sample_walks.specs.declared.Start.{Start}
 use Rattle.sample_walks.specs.declared.Start.TheVariants.{New, Full, ByHand}
 
@@ -23,12 +25,15 @@ full = fire_all (load_walk empty 3 3 net_r) (replicate 65535 0)
 unfoldable pub by_hand : Hand → Walk
 by_hand h =
     record {
-      places = h.places;
-      transitions = h.transitions;
-      pre = 1 ∷ 2 ∷ h.pre ∷ replicate 61 0;
-      post = 1 ∷ h.post ∷ replicate 62 0;
-      action = 1 ∷ 2 ∷ 3 ∷ replicate 61 0;
-      optional = h.optional;
+      net =
+          record {
+            places = h.places;
+            transitions = h.transitions;
+            pre = 1 ∷ 2 ∷ h.pre ∷ replicate 61 0;
+            post = 1 ∷ h.post ∷ replicate 62 0;
+            action = 1 ∷ 2 ∷ 3 ∷ replicate 61 0;
+            optional = h.optional;
+          };
       start = h.start;
       present = h.present;
       count = h.count;
@@ -46,24 +51,26 @@ started (ByHand h) = by_hand h
 
 -- ---- calls
 
--- the call of a number
-unfoldable pub call_of : ℕ → Call
-call_of n =
-    cond (eqb n 64) reset
-    (cond (eqb n 65) (load 3 3 net_r)
-    (cond (eqb n 66) (load 3 8 net_r)
-    (cond (eqb n 67) (load 2 1 (transition 1 2 7)) (cond (eqb n 68) (load 3 3 (optional_r 1)) (cond (eqb n 69) (load 6 21 net_three) (fire n))))))
+-- the call that each one makes
+unfoldable pub call_of : Call → Made
+call_of (Fire t) = fire t
+call_of Reset = reset
+call_of LoadR = load 3 3 net_r
+call_of LoadBeyond = load 3 8 net_r
+call_of LoadForward = load 2 1 (transition 1 2 7)
+call_of LoadOptional = load 3 3 (optional_r 1)
+call_of LoadThree = load 6 21 net_three
 
--- call n of a list of calls by number; a firing of transition 0 past its end
-unfoldable pub call_at : List ℕ → ℕ → Call
-call_at list n = call_of (get_or list n 0)
+-- call n of a list; a firing of transition 0 past its end
+unfoldable pub call_at : List Call → ℕ → Made
+call_at list n = call_of (get_or list n (Fire 0))
 
 -- a walk after the first n calls of a list
-unfoldable pub called_to : Walk → List ℕ → ℕ → Walk
+unfoldable pub called_to : Walk → List Call → ℕ → Walk
 called_to w list zero = w
 called_to w list (suc n) = called (called_to w list n) (call_at list n)
 
-unfoldable pub after : Start → List ℕ → ℕ → Walk
+unfoldable pub after : Start → List Call → ℕ → Walk
 after s list n = called_to (started s) list n
 
 -- ---- in numbers
@@ -78,5 +85,5 @@ seen w = record { number = (loaded_answer w).found.number; place = (loaded_answe
 unfoldable pub fields_of : Walk → ℕ → Fields
 fields_of w t =
     cond (ltb t 64)
-    (record { pre = get_or w.pre t 0; post = get_or w.post t 0; action = get_or w.action t 0 })
+    (record { pre = get_or w.net.pre t 0; post = get_or w.net.post t 0; action = get_or w.net.action t 0 })
     (record { pre = 0; post = 0; action = 0 })

@@ -4,24 +4,24 @@
 ghost use Rattle.std.specs.Prelude.{◌≡◌, get_or, replicate};
 ghost use Rattle.walk.specs.Calls as calls;
 ghost use Rattle.walk.specs.History as history;
+ghost use Rattle.sample_walks.specs.declared.Call.TheVariants.{Fire};
 ghost use Rattle.sample_walks.specs.Samples as samples;
 
 use net::Numbers;
 use walk::{Outcome, Walk};
 
-// A call is a number: below 64 it fires that transition; the others are these. R is loaded with 3 places, at marking 3 or beyond the
-// places, 1→2 with 2 places at marking 1, R with t1 optional as R at marking 3, and three independent transitions with 6 places at marking 21.
-pub const RESET: u32 = 64;
-
-pub const LOAD_R: u32 = 65;
-
-pub const LOAD_BEYOND: u32 = 66;
-
-pub const LOAD_FORWARD: u32 = 67;
-
-pub const LOAD_OPTIONAL: u32 = 68;
-
-pub const LOAD_THREE: u32 = 69;
+// A call. R is loaded with 3 places, at marking 3 or beyond the places, 1→2 with 2 places at marking 1, R with t1 optional as R at marking 3, and
+// three independent transitions with 6 places at marking 21.
+#[derive(Clone, Copy)]
+pub enum Call {
+    Fire(u32),
+    Reset,
+    LoadR,
+    LoadBeyond,
+    LoadForward,
+    LoadOptional,
+    LoadThree,
+}
 
 // The fields of a walk filled in by hand. Its other fields are net R's; `pre` is the pre set of t2, `post` the post set of t1.
 #[derive(Clone, Copy)]
@@ -66,18 +66,18 @@ pub struct Fields {
 // ---- the walk
 
 // Makes one call.
-fn call(walk: Walk, number: u32) -> Outcome
-    ensures { (calls.answer_of result.answer ≡ history.answered walk (samples.call_of number)) × (result.walk ≡ history.called walk (samples.call_of number)) }
+fn make(walk: Walk, call: Call) -> Outcome
+    ensures { (calls.answer_of result.answer ≡ history.answered walk (samples.call_of call)) × (result.walk ≡ history.called walk (samples.call_of call)) }
 {
     let net = sample_nets::net_r();
-    match number {
-        RESET => walk.reset(),
-        LOAD_R => walk.load(3, 3, &net),
-        LOAD_BEYOND => walk.load(3, 8, &net),
-        LOAD_FORWARD => walk.load(2, 1, &sample_nets::transition(1, 2, 7)),
-        LOAD_OPTIONAL => walk.load(3, 3, &sample_nets::net_optional(1)),
-        LOAD_THREE => walk.load(6, 21, &sample_nets::net_three()),
-        _ => walk.fire(number),
+    match call {
+        Call::Fire(transition) => walk.fire(transition),
+        Call::Reset => walk.reset(),
+        Call::LoadR => walk.load(3, 3, &net),
+        Call::LoadBeyond => walk.load(3, 8, &net),
+        Call::LoadForward => walk.load(2, 1, &sample_nets::transition(1, 2, 7)),
+        Call::LoadOptional => walk.load(3, 3, &sample_nets::net_optional(1)),
+        Call::LoadThree => walk.load(6, 21, &sample_nets::net_three()),
     }
 }
 
@@ -86,12 +86,9 @@ fn fire_often(walk: Walk, times: u32) -> Walk
     ensures { result ≡ history.fire_all walk (replicate times 0) }
 {
     let mut now = walk;
-    let mut i: u32 = 0;
-    while i < times {
+    for _ in 0..times {
         let outcome = now.fire(0);
-        let next = outcome.walk;
-        now = next;
-        i += 1;
+        now = outcome.walk;
     }
     now
 }
@@ -100,7 +97,7 @@ fn fire_often(walk: Walk, times: u32) -> Walk
 fn full() -> Walk
     ensures { result ≡ samples.full }
 {
-    let outcome = call(Walk::new(), LOAD_R);
+    let outcome = make(Walk::new(), Call::LoadR);
     fire_often(outcome.walk, 65535)
 }
 
@@ -108,23 +105,25 @@ fn full() -> Walk
 fn by_hand(hand: Hand) -> Walk
     ensures { result ≡ samples.by_hand hand }
 {
-    let mut walk = Walk::new();
-    walk.places = hand.places;
-    walk.transitions = hand.transitions;
-    walk.pre[0] = 1;
-    walk.pre[1] = 2;
-    walk.pre[2] = hand.pre;
-    walk.post[0] = 1;
-    walk.post[1] = hand.post;
-    walk.action[0] = 1;
-    walk.action[1] = 2;
-    walk.action[2] = 3;
-    walk.optional = hand.optional;
-    walk.start = hand.start;
-    walk.present = hand.present;
-    walk.count = hand.count;
-    walk.next = hand.next;
-    walk
+    let mut net = Walk::new().net;
+    net.places = hand.places;
+    net.transitions = hand.transitions;
+    net.pre[0] = 1;
+    net.pre[1] = 2;
+    net.pre[2] = hand.pre;
+    net.post[0] = 1;
+    net.post[1] = hand.post;
+    net.action[0] = 1;
+    net.action[1] = 2;
+    net.action[2] = 3;
+    net.optional = hand.optional;
+    Walk {
+        net,
+        start: hand.start,
+        present: hand.present,
+        count: hand.count,
+        next: hand.next,
+    }
 }
 
 // The walk to start with.
@@ -139,26 +138,20 @@ fn started(start: Start) -> Walk
 }
 
 // Call n of a list of calls; a firing of transition 0 past its end.
-fn call_at(list: &[u32], n: usize) -> u32
-    ensures { result ≡ get_or list.now n 0 }
+fn call_at(list: &[Call], n: usize) -> Call
+    ensures { result ≡ get_or list.now n (Fire 0) }
 {
-    if n < list.len() {
-        return list[n];
-    }
-    0
+    list.get(n).copied().unwrap_or(Call::Fire(0))
 }
 
 // The walk after the first n calls of a list.
-fn after(start: Start, list: &[u32], n: usize) -> Walk
+fn after(start: Start, list: &[Call], n: usize) -> Walk
     ensures { result ≡ samples.after start list.now n }
 {
     let mut walk = started(start);
-    let mut i = 0;
-    while i < n {
-        let outcome = call(walk, call_at(list, i));
-        let next = outcome.walk;
-        walk = next;
-        i += 1;
+    for i in 0..n {
+        let outcome = make(walk, call_at(list, i));
+        walk = outcome.walk;
     }
     walk
 }
@@ -166,10 +159,10 @@ fn after(start: Start, list: &[u32], n: usize) -> Walk
 // ---- samples
 
 // What call n of a list answers after the calls before it.
-pub fn answer(start: Start, list: &[u32], n: usize) -> Numbers
+pub fn answer(start: Start, list: &[Call], n: usize) -> Numbers
     ensures { result ≡ samples.told (history.answered (samples.after start list.now n) (samples.call_at list.now n)) }
 {
-    let outcome = call(after(start, list, n), call_at(list, n));
+    let outcome = make(after(start, list, n), call_at(list, n));
     let answer = outcome.answer;
     walk::answer_numbers(answer)
 }
@@ -187,20 +180,29 @@ pub fn loading(places: u32, marking: u64, net: &[u8]) -> Numbers
 fn see(walk: Walk) -> Seen
     ensures { result ≡ samples.seen walk }
 {
-    let read = walk.read();
-    let answer = read.answer;
-    let said = walk::answer_numbers(answer);
-    Seen {
-        number: said.number,
-        place: said.place,
-        marking: read.marking,
-        count: read.count,
-        next: read.next,
+    match walk.read() {
+        Ok(read) => Seen {
+            number: 0,
+            place: 0,
+            marking: read.marking,
+            count: read.count,
+            next: read.next,
+        },
+        Err(why) => {
+            let said = walk::answer_numbers(Err(why));
+            Seen {
+                number: said.number,
+                place: said.place,
+                marking: 0,
+                count: 0,
+                next: 0,
+            }
+        }
     }
 }
 
 // What is read after the first n calls of a list.
-pub fn reading(start: Start, list: &[u32], n: usize) -> Seen
+pub fn reading(start: Start, list: &[Call], n: usize) -> Seen
     ensures { result ≡ samples.seen (samples.after start list.now n) }
 {
     see(after(start, list, n))
@@ -233,7 +235,7 @@ pub fn fired(places: u32, marking: u64, net: &[u8], t: u32) -> Seen
 }
 
 // What the walk carries of transition t after the first n calls of a list; all zero from transition 64 on.
-pub fn carried(start: Start, list: &[u32], n: usize, t: usize) -> Fields
+pub fn carried(start: Start, list: &[Call], n: usize, t: usize) -> Fields
     ensures { result ≡ samples.fields_of (samples.after start list.now n) t }
 {
     if 64 <= t {
@@ -245,16 +247,16 @@ pub fn carried(start: Start, list: &[u32], n: usize, t: usize) -> Fields
     }
     let walk = after(start, list, n);
     Fields {
-        pre: walk.pre[t],
-        post: walk.post[t],
-        action: walk.action[t],
+        pre: walk.net.pre[t],
+        post: walk.net.post[t],
+        action: walk.net.action[t],
     }
 }
 
 // The optional transitions that the walk carries after the first n calls of a list.
-pub fn optional(start: Start, list: &[u32], n: usize) -> u64
-    ensures { result ≡ (samples.after start list.now n).optional }
+pub fn optional(start: Start, list: &[Call], n: usize) -> u64
+    ensures { result ≡ (samples.after start list.now n).net.optional }
 {
     let walk = after(start, list, n);
-    walk.optional
+    walk.net.optional
 }

@@ -1,5 +1,5 @@
 -- Records that are put one after the other. Assumes nothing.
-use Prim.Native.Nat.{ℕ, zero, suc, ◌+◌, ◌*◌, ◌≤◌}
+use Prim.Native.Nat.{ℕ, zero, suc, ◌+◌, ◌*◌}
 use mathlib.Core.Path.{◌≡◌, refl, ap, ◌∙◌}
 use mathlib.Core.List.{List, ◌++◌, append-nil}
 use native.Mathlib.Numerals.{add-one}
@@ -42,9 +42,6 @@ more_rows rows l {l₁} f p e q =
     let n = table_length rows f in
     rw add-one (after l 0 (table rows f) (row rows f) (omega arith) p (q ∙ ap (λ (v : List ℕ). sets l₁ (f * 8) v) e))
 
-pub all_rows : (rows l : List ℕ) {l₁ : List ℕ} {f n : ℕ} → f ≤ n → n ≤ f → l₁ ≡ sets l 0 (table rows f) → l₁ ≡ sets l 0 (table rows n)
-all_rows rows l {f = f} {n = n} p q e = let d : f ≡ n = omega arith in rw d at e
-
 -- ---- chains
 
 ands_length : (n : ℕ) → length (ands n) ≡ n * 8
@@ -64,9 +61,6 @@ unfolding ands
 more_ands l {l₁} {l₂} f p q =
     let n = ands_length f in
     rw (add-one f) (after l 8 {j = (f + 1) * 8} (ands f) (formula 2 f f 0) (omega arith) p q)
-
-pub all_ands : (l : List ℕ) {l₁ : List ℕ} {f n : ℕ} → f ≤ n → n ≤ f → l₁ ≡ sets l 8 (ands f) → l₁ ≡ sets l 8 (ands n)
-all_ands l {f = f} {n = n} p q e = let d : f ≡ n = omega arith in rw d at e
 
 -- a chain over all of a table
 pub chain_by : (l : List ℕ) {l₁ l₂ : List ℕ} (n : ℕ) → length l ≡ (n + 1) * 8 → l₁ ≡ sets l 0 (formula 0 0 0 0) → l₂ ≡ sets l₁ 8 (ands n)

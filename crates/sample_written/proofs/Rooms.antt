@@ -10,7 +10,9 @@ use borrow.Author.Tests.{eq-eqb, ne_eqb}
 use Rattle.stores.proofs.Stores.{after}
 use Rattle.tree_answer.specs.Answer.{Answer}
 use Rattle.tree_write.specs.declared.Numbers.{Numbers}
-use Rattle.tree_write.specs.declared.WriteResult.{WriteResult}
+use Rattle.tree_write.specs.declared.Written.{Written}
+use Rattle.tree_write.specs.declared.TreeRefusal.{TreeRefusal}
+use Rattle.std.proofs.Common.{Result}
 use Rattle.tree_write.specs.Result.{found_of, written_of, answer_of}
 use Rattle.nodes.specs.Nodes.{node_size}
 use Rattle.nodes.specs.Written.{with_side}
@@ -74,13 +76,13 @@ all_kept l from i n h p q e = let d : i - from ≡ length l - from = omega arith
 pub whole : (room : List ℕ) (nodes : ℕ) → length room / node_size < nodes → room ≡ take (nodes * node_size) room
 whole room nodes h = sym (take_all (nodes * node_size) room (omega arith))
 
-pub sided : (ask l : List ℕ) {l₁ : List ℕ} (side : ℕ) → length ask ≡ length l → l₁ ≡ sets l 0 ask → set l₁ 11 side ≡ with_side ask side
+pub sided : (ask : List ℕ) {l₁ : List ℕ} (side : ℕ) → l₁ ≡ ask → set l₁ 11 side ≡ with_side ask side
 unfolding with_side
-sided ask l side h e = ap (λ (a : List ℕ). set a 11 side) (e ∙ all_stored l ask h)
+sided ask side e = ap (λ (a : List ℕ). set a 11 side) e
 
 -- ---- answers in numbers
 
-pub write_told : (w : WriteResult) (n : Numbers) (room : List ℕ) (a : Answer) → answer_of w room ≡ a
+pub write_told : (w : Result Written TreeRefusal) (n : Numbers) (room : List ℕ) (a : Answer) → answer_of w room ≡ a
     → (n.number ≡ (found_of w).number) × (n.place ≡ (found_of w).place) × (n.side ≡ (written_of w).side) × (n.nodes ≡ (written_of w).nodes)
     → writer n room ≡ a
 write_told w n room a e h = simp (h.0, h.1, h.2, h.3) e

@@ -11,7 +11,7 @@ ghost use Rattle.tree_answer.specs.Answer.{write_answer};
 ghost use Rattle.sample_written.specs.Tables as tables;
 ghost use Rattle.sample_written.specs.Told as told;
 
-use checker::Verdict;
+use checker::Rejection;
 use nodes::read;
 use sample_bytes::put_bytes;
 use sample_nets::put_transition;
@@ -24,7 +24,7 @@ pub fn put_formula(table: &mut [u8], f: u16, operator: u8, left: u16, right: u16
     ensures { table.new ≡ sets table.old (f * 8) (formula operator left right action) }
 {
     let record = sample_trees::formula(operator, left, right, action);
-    put_bytes(table, f as usize * 8, &record);
+    put_bytes(table, usize::from(f) * 8, &record);
 }
 
 // The number that a digit's byte writes.
@@ -43,7 +43,12 @@ fn row(rows: &[u8], f: usize) -> [u8; 8]
     let left = digit(rows[at + 1]);
     let right = digit(rows[at + 2]);
     let action = digit(rows[at + 3]);
-    sample_trees::formula(digit(rows[at]), left as u16, right as u16, action as u16)
+    sample_trees::formula(
+        digit(rows[at]),
+        u16::from(left),
+        u16::from(right),
+        u16::from(action),
+    )
 }
 
 // Puts the formula records of such rows from the start of a table on.
@@ -51,11 +56,8 @@ fn put_rows(table: &mut [u8], rows: &[u8])
     requires { length rows.now ≤ 1000 }
     ensures { table.new ≡ sets table.old 0 (tables.table rows.now ((length rows.now + 1) / 5)) }
 {
-    let n = (rows.len() + 1) / 5;
-    let mut f = 0;
-    while f < n {
+    for f in 0..(rows.len() + 1) / 5 {
         put_bytes(table, f * 8, &row(rows, f));
-        f += 1;
     }
 }
 
@@ -103,10 +105,8 @@ fn put_ands(table: &mut [u8], n: u16)
     requires { n ≤ 255 }
     ensures { table.new ≡ sets table.old 8 (tables.ands n) }
 {
-    let mut f: u16 = 0;
-    while f < n {
+    for f in 0..n {
         put_formula(table, f + 1, 2, f, f, 0);
-        f += 1;
     }
 }
 
@@ -154,10 +154,8 @@ pub fn net_of_choices() -> [u8; 144]
 fn fill(room: &mut [u8])
     ensures { room.new ≡ told.filled (length room.old) }
 {
-    let mut i = 0;
-    while i < room.len() {
-        room[i] = (i % 251) as u8;
-        i += 1;
+    for (i, byte) in room.iter_mut().enumerate() {
+        *byte = (i % 251) as u8;
     }
 }
 
@@ -166,12 +164,10 @@ pub fn kept(room: &[u8], from: usize) -> usize
     ensures { result ≡ told.kept room.now from (length room.now - from) }
 {
     let mut n: usize = 0;
-    let mut i = from;
-    while i < room.len() {
-        if room[i] as usize == i % 251 {
+    for i in from..room.len() {
+        if usize::from(room[i]) == i % 251 {
             n += 1;
         }
-        i += 1;
     }
     n
 }
@@ -198,12 +194,18 @@ pub fn write(ask: &[u8], net: &[u8], formulas: &[u8], room: &mut [u8]) -> Number
 }
 
 // The check's verdict on a tree for the ask with this side put in.
-pub fn check(ask: &[u8], side: u8, net: &[u8], formulas: &[u8], tree: &[u8]) -> Verdict
+pub fn check(
+    ask: &[u8],
+    side: u8,
+    net: &[u8],
+    formulas: &[u8],
+    tree: &[u8],
+) -> Result<usize, Rejection>
     requires { length ask.now ≡ ask_size_lem }
     ensures { outcomes.verdict result ≡ outcomes.check_outcome (with_side ask.now side) net.now formulas.now tree.now }
 {
     let mut sided = [0u8; read::ASK];
-    put_bytes(&mut sided, 0, ask);
+    sided.copy_from_slice(ask);
     sided[11] = side;
     checker::check(&sided, net, formulas, tree)
 }

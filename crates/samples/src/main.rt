@@ -1,7 +1,6 @@
 // Runs the samples of document 01 and prints a line for each: a name, then the answer in document 01's numbers or its line.
 #![tactic(auto)]
 
-mod lines;
 mod trees;
 
 use std::io;

@@ -2,18 +2,17 @@
 // changed is R's tree of 23 nodes, which is accepted.
 ghost use Rattle.std.specs.Prelude.{◌≡◌, ◌<◌, length};
 
-use crate::lines::{end, number, print};
 use sample_bytes::{put_bytes, put_number};
 use sample_nets::{net_optional, net_r, transition};
 use sample_trees::{ask, formula, formulas_r, node, tree_fails, tree_r};
-use std::io;
+use std::{fmt, io};
 
 // Prints the line of four tables.
 fn tell(rt: HostRuntime, ask: &[u8], net: &[u8], formulas: &[u8], tree: &[u8]) -> io::Result<()> {
-    print(rt, b": ")?;
     let mut text = [0u8; 40];
     let size = line::check_line(ask, net, formulas, tree, &mut text);
-    print(rt, &text[..size])
+    print!(rt; ": ")?;
+    rt.write_all(&text[..size])
 }
 
 // Over R's net and formulas.
@@ -23,14 +22,13 @@ fn tell_r(rt: HostRuntime, ask: [u8; 12], tree: &[u8]) -> io::Result<()> {
 
 // R fails 2, its node 3 keeping some.
 fn keeping(rt: HostRuntime, last: u64) -> io::Result<()> {
-    print(rt, b"R fails 2, node 3 keeping")?;
-    number(rt, last)?;
+    print!(rt; "R fails 2, node 3 keeping {last}")?;
     tell_r(rt, ask(3, 2, 3, 1), &tree_fails(3, 3, last))
 }
 
 // Only place 0 and t0.
 fn one_place(rt: HostRuntime) -> io::Result<()> {
-    print(rt, b"only place 0 and t0")?;
+    print!(rt; "only place 0 and t0")?;
     let tree = tree_fails(1, 1, 0);
     tell(
         rt,
@@ -43,7 +41,7 @@ fn one_place(rt: HostRuntime) -> io::Result<()> {
 
 // The starred samples.
 fn starred(rt: HostRuntime) -> io::Result<()> {
-    print(rt, b"R holds 2")?;
+    print!(rt; "R holds 2")?;
     tell_r(rt, ask(3, 2, 3, 0), &tree_r())?;
     keeping(rt, 2)?;
     keeping(rt, 0)?;
@@ -54,11 +52,7 @@ fn starred(rt: HostRuntime) -> io::Result<()> {
 
 // R's tree under an ask.
 fn asked(rt: HostRuntime, marking: u64, formula: u16, places: u8, side: u8) -> io::Result<()> {
-    print(rt, b"R, ask")?;
-    number(rt, marking)?;
-    number(rt, formula as u64)?;
-    number(rt, places as u64)?;
-    number(rt, side as u64)?;
+    print!(rt; "R, ask {marking} {formula} {places} {side}")?;
     tell_r(rt, ask(marking, formula, places, side), &tree_r())
 }
 
@@ -77,23 +71,21 @@ fn tell_net(rt: HostRuntime, net: [u8; 72]) -> io::Result<()> {
 
 // R with another transition t.
 fn with_transition(rt: HostRuntime, t: u8, pre: u64, post: u64, action: u16) -> io::Result<()> {
-    print(rt, b"R, transition")?;
-    number(rt, t as u64)?;
-    number(rt, pre)?;
-    number(rt, post)?;
-    number(rt, action as u64)?;
+    print!(rt; "R, transition {t} {pre} {post} {action}")?;
     let mut net = net_r();
-    put_bytes(&mut net, t as usize * 24, &transition(pre, post, action));
+    put_bytes(
+        &mut net,
+        usize::from(t) * 24,
+        &transition(pre, post, action),
+    );
     tell_net(rt, net)
 }
 
 // R with another byte in its net.
-fn with_net_byte(rt: HostRuntime, at: usize, value: u64) -> io::Result<()> {
-    print(rt, b"R, net, byte")?;
-    number(rt, at as u64)?;
-    number(rt, value)?;
+fn with_net_byte(rt: HostRuntime, at: usize, value: u8) -> io::Result<()> {
+    print!(rt; "R, net, byte {at} {value}")?;
     let mut net = net_r();
-    put_number(&mut net, at, 1, value);
+    put_bytes(&mut net, at, &[value]);
     tell_net(rt, net)
 }
 
@@ -111,14 +103,10 @@ fn nets(rt: HostRuntime) -> io::Result<()> {
 
 // R with transition t optional, its tree, and the tree that shows "fails 2" by the loop of t0, its node 1 keeping some.
 fn with_optional(rt: HostRuntime, t: u8, kept: u64, last: u64) -> io::Result<()> {
-    print(rt, b"R, optional")?;
-    number(rt, t as u64)?;
+    print!(rt; "R, optional {t}")?;
     tell_net(rt, net_optional(t))?;
-    print(rt, b"R, optional")?;
-    number(rt, t as u64)?;
-    print(rt, b", fails 2, keeping")?;
-    number(rt, kept)?;
-    number(rt, last)?;
+    print!(rt; "R, optional {t}")?;
+    print!(rt; ", fails 2, keeping {kept} {last}")?;
     tell(
         rt,
         &ask(3, 2, 3, 1),
@@ -130,7 +118,7 @@ fn with_optional(rt: HostRuntime, t: u8, kept: u64, last: u64) -> io::Result<()>
 
 // Puts three nodes, the first of them node k.
 fn put_three(tree: &mut [u8], k: u8, a: [u8; 40], b: [u8; 40], c: [u8; 40]) {
-    let at = k as usize * 40;
+    let at = usize::from(k) * 40;
     put_bytes(tree, at, &a);
     put_bytes(tree, at + 40, &b);
     put_bytes(tree, at + 80, &c);
@@ -178,11 +166,10 @@ fn tree_optional(rt: HostRuntime, net: &[u8]) -> io::Result<()> {
 }
 
 // The transition 1→0 with this mark at marking 1, and "fails 2" by rule 29: nothing pressed is enabled, and the right fails.
-fn waiting(rt: HostRuntime, mark: u64) -> io::Result<()> {
-    print(rt, b"1->0, mark")?;
-    number(rt, mark)?;
+fn waiting(rt: HostRuntime, mark: u8) -> io::Result<()> {
+    print!(rt; "1->0, mark {mark}")?;
     let mut net = transition(1, 0, 1);
-    put_number(&mut net, 18, 1, mark);
+    net[18] = mark;
     let mut tree = [0u8; 80];
     put_bytes(&mut tree, 0, &node(1, 0, 0, 0, 1, 2, 1, 29, 1, 0, 0, 0));
     put_bytes(&mut tree, 40, &node(1, 0, 0, 0, 0, 1, 0, 24, 1, 0, 0, 0));
@@ -193,9 +180,9 @@ fn optionals(rt: HostRuntime) -> io::Result<()> {
     with_optional(rt, 1, 1, 0)?;
     with_optional(rt, 1, 3, 2)?; // t1 kept too
     with_optional(rt, 0, 2, 2)?;
-    print(rt, b"R, optional 0, holds 2, 15 nodes")?;
+    print!(rt; "R, optional 0, holds 2, 15 nodes")?;
     tree_optional(rt, &net_optional(0))?;
-    print(rt, b"R, holds 2, 15 nodes")?;
+    print!(rt; "R, holds 2, 15 nodes")?;
     tree_optional(rt, &net_r())?;
     waiting(rt, 1)?;
     waiting(rt, 0)
@@ -215,24 +202,18 @@ fn with_formula(
     right: u16,
     action: u16,
 ) -> io::Result<()> {
-    print(rt, b"R, formula")?;
-    number(rt, f as u64)?;
-    number(rt, operator as u64)?;
-    number(rt, left as u64)?;
-    number(rt, right as u64)?;
-    number(rt, action as u64)?;
+    print!(rt; "R, formula {f} {operator} {left} {right} {action}")?;
     let mut table = formulas_r();
     let record = formula(operator, left, right, action);
-    put_bytes(&mut table, f as usize * 8, &record);
+    put_bytes(&mut table, usize::from(f) * 8, &record);
     tell_formulas(rt, table)
 }
 
 // R's formulas with a byte that is 1.
 fn with_formulas_byte(rt: HostRuntime, at: usize) -> io::Result<()> {
-    print(rt, b"R, formulas, byte")?;
-    number(rt, at as u64)?;
+    print!(rt; "R, formulas, byte {at}")?;
     let mut table = formulas_r();
-    put_number(&mut table, at, 1, 1);
+    put_bytes(&mut table, at, &[1]);
     tell_formulas(rt, table)
 }
 
@@ -246,28 +227,24 @@ fn formulas(rt: HostRuntime) -> io::Result<()> {
 
 // R's tables cut to these lengths.
 fn cut(rt: HostRuntime, a: usize, n: usize, f: usize, t: usize) -> io::Result<()> {
-    print(rt, b"R, bytes")?;
-    number(rt, a as u64)?;
-    number(rt, n as u64)?;
-    number(rt, f as u64)?;
-    number(rt, t as u64)?;
+    print!(rt; "R, bytes {a} {n} {f} {t}")?;
     let asked = ask(3, 2, 3, 0);
     let net = net_r();
     let table = formulas_r();
     let tree = tree_r();
-    if 12 < a {
+    let Some(asked) = asked.get(..a) else {
         return Ok(());
-    }
-    if 72 < n {
+    };
+    let Some(net) = net.get(..n) else {
         return Ok(());
-    }
-    if 24 < f {
+    };
+    let Some(table) = table.get(..f) else {
         return Ok(());
-    }
-    if 920 < t {
+    };
+    let Some(tree) = tree.get(..t) else {
         return Ok(());
-    }
-    tell(rt, &asked[..a], &net[..n], &table[..f], &tree[..t])
+    };
+    tell(rt, asked, net, table, tree)
 }
 
 // Lengths that are no records, and a tree without its last node.
@@ -291,15 +268,14 @@ fn zeros() -> [u8; 2621480]
 
 // More nodes than a tree may have.
 fn many(rt: HostRuntime) -> io::Result<()> {
-    print(rt, b"65537 nodes")?;
+    print!(rt; "65537 nodes")?;
     let tree = zeros();
     tell_r(rt, ask(3, 2, 3, 0), &tree)
 }
 
 // A formula that is true, at the marking of place 63, with so many places.
 fn edge(rt: HostRuntime, places: u8) -> io::Result<()> {
-    print(rt, b"marking 63 of")?;
-    number(rt, places as u64)?;
+    print!(rt; "marking 63 of {places}")?;
     let tree = node(9223372036854775808, 0, 0, 0, 0, 0, 0, 15, 0, 0, 0, 0);
     let asked = ask(9223372036854775808, 0, places, 0);
     tell(
@@ -313,87 +289,97 @@ fn edge(rt: HostRuntime, places: u8) -> io::Result<()> {
 
 // ---- 20 to 26
 
-// Where the fields of a node start.
-const MARKING: u8 = 0;
+// A field of a node.
+#[derive(Clone, Copy)]
+enum Field {
+    Marking,
+    Anchor,
+    Kept,
+    Parent,
+    First,
+    Formula,
+    Children,
+    Rule,
+    Side,
+    Phase,
+    Round,
+    Transition,
+}
 
-const ANCHOR: u8 = 8;
+impl Field {
+    // Where it starts.
+    fn start(self) -> usize
+        ensures { result < 40 }
+    {
+        match self {
+            Field::Marking => 0,
+            Field::Anchor => 8,
+            Field::Kept => 16,
+            Field::Parent => 24,
+            Field::First => 28,
+            Field::Formula => 32,
+            Field::Children => 34,
+            Field::Rule => 35,
+            Field::Side => 36,
+            Field::Phase => 37,
+            Field::Round => 38,
+            Field::Transition => 39,
+        }
+    }
 
-const KEPT: u8 = 16;
-
-const PARENT: u8 = 24;
-
-const FIRST: u8 = 28;
-
-const FORMULA: u8 = 32;
-
-const CHILDREN: u8 = 34;
-
-const RULE: u8 = 35;
-
-const SIDE: u8 = 36;
-
-const PHASE: u8 = 37;
-
-const ROUND: u8 = 38;
-
-const TRANSITION: u8 = 39;
-
-// Prints the name of a field of one byte.
-fn name_of_byte(rt: HostRuntime, field: u8) -> io::Result<()> {
-    match field {
-        CHILDREN => print(rt, b", children"),
-        RULE => print(rt, b", rule"),
-        SIDE => print(rt, b", side"),
-        PHASE => print(rt, b", phase"),
-        ROUND => print(rt, b", round"),
-        _ => print(rt, b", transition"),
+    // Its bytes.
+    fn width(self) -> usize {
+        match self {
+            Field::Marking | Field::Anchor | Field::Kept => 8,
+            Field::Parent | Field::First => 4,
+            Field::Formula => 2,
+            _ => 1,
+        }
     }
 }
 
-// Prints the name of a field.
-fn name(rt: HostRuntime, field: u8) -> io::Result<()> {
-    match field {
-        MARKING => print(rt, b", marking"),
-        ANCHOR => print(rt, b", anchor"),
-        KEPT => print(rt, b", kept"),
-        PARENT => print(rt, b", parent"),
-        FIRST => print(rt, b", first"),
-        FORMULA => print(rt, b", formula"),
-        _ => name_of_byte(rt, field),
-    }
-}
-
-// The bytes of a field.
-fn width(field: u8) -> usize {
-    match field {
-        MARKING | ANCHOR | KEPT => 8,
-        PARENT | FIRST => 4,
-        FORMULA => 2,
-        _ => 1,
+impl fmt::Display for Field {
+    fn fmt<W: fmt::Write>(&self, f: &mut fmt::Formatter<W>) -> fmt::Result {
+        let name = match self {
+            Field::Marking => "marking",
+            Field::Anchor => "anchor",
+            Field::Kept => "kept",
+            Field::Parent => "parent",
+            Field::First => "first",
+            Field::Formula => "formula",
+            Field::Children => "children",
+            Field::Rule => "rule",
+            Field::Side => "side",
+            Field::Phase => "phase",
+            Field::Round => "round",
+            Field::Transition => "transition",
+        };
+        write!(f, "{name}")
     }
 }
 
 // Gives a field of node k a value, and prints both.
-fn put_field(rt: HostRuntime, tree: &mut [u8], k: u8, field: u8, value: u64) -> io::Result<()> {
-    name(rt, field)?;
-    number(rt, value)?;
-    let at = k as usize * 40 + field as usize;
-    put_number(tree, at, width(field), value);
-    Ok(())
+fn put_field(rt: HostRuntime, tree: &mut [u8], k: u8, field: Field, value: u64) -> io::Result<()> {
+    put_number(
+        tree,
+        usize::from(k) * 40 + field.start(),
+        field.width(),
+        value,
+    );
+    print!(rt; ", {field} {value}")
 }
 
 // R's tree with a field of node k changed.
-fn with(rt: HostRuntime, k: u8, field: u8, value: u64) -> io::Result<()> {
-    print(rt, b"R, node")?;
-    number(rt, k as u64)?;
+fn with(rt: HostRuntime, k: u8, field: Field, value: u64) -> io::Result<()> {
+    print!(rt; "R, node {k}")?;
     let mut tree = tree_r();
     put_field(rt, &mut tree, k, field, value)?;
     tell_r(rt, ask(3, 2, 3, 0), &tree)
 }
 
 // R's tree with two fields of the root changed.
-fn with_both(rt: HostRuntime, one: u8, first: u64, two: u8, second: u64) -> io::Result<()> {
-    print(rt, b"R, node 0")?;
+fn with_both(rt: HostRuntime, one: Field, first: u64, two: Field, second: u64) -> io::Result<()> {
+    print!(rt; "R, node 0")?;
     let mut tree = tree_r();
     put_field(rt, &mut tree, 0, one, first)?;
     put_field(rt, &mut tree, 0, two, second)?;
@@ -402,9 +388,7 @@ fn with_both(rt: HostRuntime, one: u8, first: u64, two: u8, second: u64) -> io::
 
 // Three nodes for "true holds at 3": a leaf, a leaf with this parent, and a node with this child.
 fn strays(rt: HostRuntime, parent: u32, first: u32) -> io::Result<()> {
-    print(rt, b"true, parent and first")?;
-    number(rt, parent as u64)?;
-    number(rt, first as u64)?;
+    print!(rt; "true, parent and first {parent} {first}")?;
     let mut tree = [0u8; 120];
     put_bytes(&mut tree, 0, &node(3, 0, 0, 0, 0, 0, 0, 15, 0, 0, 0, 0));
     put_bytes(
@@ -422,113 +406,108 @@ fn strays(rt: HostRuntime, parent: u32, first: u32) -> io::Result<()> {
 
 // A root alone for "true holds at 3", with this child.
 fn alone(rt: HostRuntime, first: u32) -> io::Result<()> {
-    print(rt, b"true, first")?;
-    number(rt, first as u64)?;
+    print!(rt; "true, first {first}")?;
     let tree = node(3, 0, 0, 0, first, 0, 1, 15, 0, 0, 0, 0);
     tell_r(rt, ask(3, 0, 3, 0), &tree)
 }
 
 // 20
 fn links(rt: HostRuntime) -> io::Result<()> {
-    with(rt, 0, PARENT, 1)?; // the root's parent is not 0
+    with(rt, 0, Field::Parent, 1)?; // the root's parent is not 0
     strays(rt, 2, 1)?; // node 1 has a parent that counts it and is not lower
     strays(rt, 0, 3)?; // node 1 has a parent that is lower and does not count it
-    with(rt, 1, FIRST, 1)?; // a leaf with a first child
-    with(rt, 2, PARENT, 1)?; // the root's children are not consecutive
+    with(rt, 1, Field::First, 1)?; // a leaf with a first child
+    with(rt, 2, Field::Parent, 1)?; // the root's children are not consecutive
     alone(rt, 0)?; // a child that names the root and is not above
     alone(rt, 1)?; // a child outside the table
-    with(rt, 4, PARENT, 0) // the child of node 2 names another parent
+    with(rt, 4, Field::Parent, 0) // the child of node 2 names another parent
 }
 
 // 21: a field out of its range. In phase 1 anchor, kept and round need not be zero; rule 4 chooses a transition.
 fn ranges(rt: HostRuntime) -> io::Result<()> {
-    with(rt, 0, MARKING, 8)?;
-    with_both(rt, PHASE, 1, ANCHOR, 8)?;
-    with_both(rt, PHASE, 1, KEPT, 8)?;
-    with_both(rt, RULE, 4, TRANSITION, 3)?;
-    with(rt, 0, FORMULA, 3)?;
-    with(rt, 0, SIDE, 2)?;
-    with(rt, 0, PHASE, 5)?;
-    with_both(rt, PHASE, 1, ROUND, 65)
+    with(rt, 0, Field::Marking, 8)?;
+    with_both(rt, Field::Phase, 1, Field::Anchor, 8)?;
+    with_both(rt, Field::Phase, 1, Field::Kept, 8)?;
+    with_both(rt, Field::Rule, 4, Field::Transition, 3)?;
+    with(rt, 0, Field::Formula, 3)?;
+    with(rt, 0, Field::Side, 2)?;
+    with(rt, 0, Field::Phase, 5)?;
+    with_both(rt, Field::Phase, 1, Field::Round, 65)
 }
 
 // 21: a field that is not zero where it must be. Rules 6 and 15 choose no transition.
 fn required(rt: HostRuntime) -> io::Result<()> {
-    with(rt, 0, ANCHOR, 1)?;
-    with(rt, 0, KEPT, 1)?;
-    with(rt, 0, ROUND, 1)?;
-    with_both(rt, PHASE, 4, ROUND, 1)?;
-    with(rt, 0, TRANSITION, 1)?;
-    with(rt, 22, TRANSITION, 1)
+    with(rt, 0, Field::Anchor, 1)?;
+    with(rt, 0, Field::Kept, 1)?;
+    with(rt, 0, Field::Round, 1)?;
+    with_both(rt, Field::Phase, 4, Field::Round, 1)?;
+    with(rt, 0, Field::Transition, 1)?;
+    with(rt, 22, Field::Transition, 1)
 }
 
 // Fields at the end of their range: the next fault is told.
 fn inside(rt: HostRuntime) -> io::Result<()> {
-    with(rt, 0, MARKING, 7)?;
-    with_both(rt, PHASE, 1, ANCHOR, 7)?;
-    with_both(rt, PHASE, 1, KEPT, 7)?;
-    with_both(rt, PHASE, 1, ROUND, 64)?;
-    with(rt, 0, PHASE, 4)?;
-    with_both(rt, RULE, 2, TRANSITION, 2)
+    with(rt, 0, Field::Marking, 7)?;
+    with_both(rt, Field::Phase, 1, Field::Anchor, 7)?;
+    with_both(rt, Field::Phase, 1, Field::Kept, 7)?;
+    with_both(rt, Field::Phase, 1, Field::Round, 64)?;
+    with(rt, 0, Field::Phase, 4)?;
+    with_both(rt, Field::Rule, 2, Field::Transition, 2)
 }
 
 // 22: the root is not the ask in phase 0.
 fn roots(rt: HostRuntime) -> io::Result<()> {
-    with(rt, 0, MARKING, 1)?;
-    with(rt, 0, FORMULA, 1)?;
-    with(rt, 0, SIDE, 1)?;
-    with(rt, 0, PHASE, 1)
+    with(rt, 0, Field::Marking, 1)?;
+    with(rt, 0, Field::Formula, 1)?;
+    with(rt, 0, Field::Side, 1)?;
+    with(rt, 0, Field::Phase, 1)
 }
 
 // 23, 24 and 25: the rule and the number of children.
 fn rules(rt: HostRuntime) -> io::Result<()> {
-    with(rt, 0, RULE, 0)?; // unknown
-    with(rt, 0, RULE, 19)?;
-    with(rt, 0, RULE, 34)?;
-    with(rt, 0, RULE, 31)?; // for the other side
-    with(rt, 0, RULE, 15)?; // for another operator
-    with(rt, 0, RULE, 8)?; // for another phase
-    with(rt, 0, RULE, 7)?; // on the trail
-    with(rt, 0, CHILDREN, 2)
+    with(rt, 0, Field::Rule, 0)?; // unknown
+    with(rt, 0, Field::Rule, 19)?;
+    with(rt, 0, Field::Rule, 34)?;
+    with(rt, 0, Field::Rule, 31)?; // for the other side
+    with(rt, 0, Field::Rule, 15)?; // for another operator
+    with(rt, 0, Field::Rule, 8)?; // for another phase
+    with(rt, 0, Field::Rule, 7)?; // on the trail
+    with(rt, 0, Field::Children, 2)
 }
 
 // 26: a field of node 4, the child of node 2, is not the one that node 2 gives.
 fn sequents(rt: HostRuntime) -> io::Result<()> {
-    with(rt, 4, MARKING, 1)?;
-    with(rt, 4, ANCHOR, 1)?;
-    with(rt, 4, KEPT, 2)?;
-    with(rt, 4, FORMULA, 1)?;
-    with(rt, 4, SIDE, 1)?;
-    with(rt, 4, PHASE, 2)?;
-    with(rt, 4, ROUND, 1)
+    with(rt, 4, Field::Marking, 1)?;
+    with(rt, 4, Field::Anchor, 1)?;
+    with(rt, 4, Field::Kept, 2)?;
+    with(rt, 4, Field::Formula, 1)?;
+    with(rt, 4, Field::Side, 1)?;
+    with(rt, 4, Field::Phase, 2)?;
+    with(rt, 4, Field::Round, 1)
 }
 
 // ---- R's tables
 
 // Prints a table, a line for each record: its name and its bytes.
-fn records(rt: HostRuntime, name: &[u8], table: &[u8], size: usize) -> io::Result<()>
+fn records(rt: HostRuntime, name: &str, table: &[u8], size: usize) -> io::Result<()>
     requires { 0 < size }
 {
-    let mut i = 0;
-    while i < table.len() {
-        if i % size == 0 {
-            print(rt, name)?;
+    for record in table.chunks_exact(size) {
+        print!(rt; "{name}")?;
+        for byte in record {
+            print!(rt; " {byte}")?;
         }
-        number(rt, table[i] as u64)?;
-        i += 1;
-        if i % size == 0 {
-            end(rt)?;
-        }
+        println!(rt;)?;
     }
     Ok(())
 }
 
 // The tables of "R holds 2", which examples/r and the host tests have too.
 fn tables(rt: HostRuntime) -> io::Result<()> {
-    records(rt, b"R ASK:", &ask(3, 2, 3, 0), 12)?;
-    records(rt, b"R NET:", &net_r(), 24)?;
-    records(rt, b"R FORMULA:", &formulas_r(), 8)?;
-    records(rt, b"R TREE:", &tree_r(), 40)
+    records(rt, "R ASK:", &ask(3, 2, 3, 0), 12)?;
+    records(rt, "R NET:", &net_r(), 24)?;
+    records(rt, "R FORMULA:", &formulas_r(), 8)?;
+    records(rt, "R TREE:", &tree_r(), 40)
 }
 
 pub(crate) fn print_all(rt: HostRuntime) -> io::Result<()> {

@@ -1,47 +1,31 @@
 // The samples of labels and of category files. A line of a label has a name, the check's number and record, the label's file, offset and
 // length, and its bytes; a line of a text, the lookup in one file by itself, a name, the text's length and its bytes.
-use crate::lines::{end, number, print};
-use crate::names::print_name;
 use sample_labels::put_record;
 use std::io;
 
 // ---- one line
 
-// A byte as a number of 64 bits.
-fn wide(b: u8) -> u64 {
-    b as u64
-}
-
-// Prints each byte as a number.
+// Prints each byte as a number, and ends the line.
 fn bytes(rt: HostRuntime, text: &[u8]) -> io::Result<()> {
-    let mut i: usize = 0;
-    while i < text.len() {
-        number(rt, wide(text[i]))?;
-        i += 1;
+    for byte in text {
+        print!(rt; " {byte}")?;
     }
-    Ok(())
+    println!(rt;)
 }
 
 // Checks a translation and a house file, looks an action's label up, and prints what comes.
 fn lookup<'a>(
     rt: HostRuntime,
-    names: &[u8],
-    i: u32,
+    name: &str,
     translation: &'a [u8],
     house: &'a [u8],
     action: u16,
 ) -> io::Result<()> {
     let said = category::check_numbers(category::check(translation, house));
     let place = category::place(translation, house, action);
-    print(rt, b"label, ")?;
-    print_name(rt, names, i)?;
-    number(rt, said.number as u64)?;
-    number(rt, said.place)?;
-    number(rt, place.file as u64)?;
-    number(rt, place.offset as u64)?;
-    number(rt, place.length as u64)?;
-    bytes(rt, category::label(translation, house, action))?;
-    end(rt)
+    print!(rt; "label, {name} {} {}", said.number, said.place)?;
+    print!(rt; " {} {} {}", place.file, place.offset, place.length)?;
+    bytes(rt, category::label(translation, house, action))
 }
 
 // ---- files by their records
@@ -93,46 +77,34 @@ fn put(table: &mut [u8], i: u32, fields: Fields) {
 // The bytes of a file, with zero bytes after them.
 fn table(file: Contents) -> [u8; 64] {
     let mut table = [0u8; 64];
-    let first = file.first;
-    let second = file.second;
-    put(&mut table, 0, first);
-    put(&mut table, 1, second);
+    put(&mut table, 0, file.first);
+    put(&mut table, 1, file.second);
     table
 }
 
 // Looks a label up in two files.
 fn sample(
     rt: HostRuntime,
-    names: &[u8],
-    i: u32,
+    name: &str,
     translation: Contents,
     house: Contents,
     action: u16,
 ) -> io::Result<()> {
-    let t = table(translation);
-    let h = table(house);
-    let n = translation.size;
-    let m = house.size;
-    if 64 < n {
+    let first = table(translation);
+    let second = table(house);
+    let Some(first) = first.get(..translation.size) else {
         return Ok(());
-    }
-    if 64 < m {
+    };
+    let Some(second) = second.get(..house.size) else {
         return Ok(());
-    }
-    lookup(rt, names, i, &t[..n], &h[..m], action)
+    };
+    lookup(rt, name, first, second, action)
 }
 
 // ---- labels
 
 // A label of one file or of both; files of no records.
 fn own(rt: HostRuntime) -> io::Result<()> {
-    let names: &[u8] = b"in both:\n\
-        missing in the translation:\n\
-        missing in the house file:\n\
-        missing in both:\n\
-        no translation:\n\
-        no house file:\n\
-        no records:\n";
     let zeros = record(0, 0, 0, 0, 0);
     let go = record(5, 0, 0, b'G', b'o');
     let none = file(0, zeros, zeros);
@@ -142,159 +114,125 @@ fn own(rt: HostRuntime) -> io::Result<()> {
         record(5, 0, 0, b'N', b'o'),
         record(600, 0, 0, b'U', b'p'),
     );
-    sample(rt, names, 0, one, two, 5)?;
-    sample(rt, names, 1, one, two, 600)?;
-    sample(rt, names, 2, two, one, 600)?;
-    sample(rt, names, 3, one, two, 6)?;
-    sample(rt, names, 4, none, one, 5)?;
-    sample(rt, names, 5, one, none, 5)?;
-    sample(rt, names, 6, none, none, 5)
+    sample(rt, "in both:", one, two, 5)?;
+    sample(rt, "missing in the translation:", one, two, 600)?;
+    sample(rt, "missing in the house file:", two, one, 600)?;
+    sample(rt, "missing in both:", one, two, 6)?;
+    sample(rt, "no translation:", none, one, 5)?;
+    sample(rt, "no house file:", one, none, 5)?;
+    sample(rt, "no records:", none, none, 5)
 }
 
 // The label of an action that the house file alone has, beside a translation of the actions 5 and 600.
-fn beside(rt: HostRuntime, names: &[u8], i: u32, action: u16) -> io::Result<()> {
+fn beside(rt: HostRuntime, name: &str, action: u16) -> io::Result<()> {
     let no = record(5, 0, 0, b'N', b'o');
     let up = record(600, 0, 0, b'U', b'p');
     let go = record(action, 0, 0, b'G', b'o');
-    sample(rt, names, i, file(64, no, up), file(32, go, no), action)
+    sample(rt, name, file(64, no, up), file(32, go, no), action)
 }
 
 // An action below, between and above those of the translation.
 fn gaps(rt: HostRuntime) -> io::Result<()> {
-    let names: &[u8] = b"below the first:\n\
-        between two:\n\
-        above the last:\n";
-    beside(rt, names, 0, 4)?;
-    beside(rt, names, 1, 6)?;
-    beside(rt, names, 2, 601)
+    beside(rt, "below the first:", 4)?;
+    beside(rt, "between two:", 6)?;
+    beside(rt, "above the last:", 601)
 }
 
 // ---- translations of one record
 
 // A translation of one record, of action 5.
-fn single(
-    rt: HostRuntime,
-    names: &[u8],
-    i: u32,
-    kind: u8,
-    lender: u16,
-    text: &[u8],
-) -> io::Result<()> {
+fn single(rt: HostRuntime, name: &str, kind: u8, lender: u16, text: &[u8]) -> io::Result<()> {
     let file = sample_labels::record(5, kind, lender, text);
-    lookup(rt, names, i, &file, b"", 5)
+    lookup(rt, name, &file, b"", 5)
 }
 
 // Texts, good and faulty; kinds above 0 and lenders.
 fn texts(rt: HostRuntime) -> io::Result<()> {
-    let names: &[u8] = b"text of 24 bytes:\n\
-        byte 0x1F:\n\
-        bytes 0x20 and 0x7E:\n\
-        byte 0x7F:\n\
-        byte 0x80:\n\
-        byte 0x9F:\n\
-        bytes 0xA0 and 0xFF:\n\
-        no text:\n\
-        a byte after a zero byte:\n\
-        own text and a lender:\n\
-        kind 1:\n\
-        kind 1 and a lender:\n\
-        kind 1 without a text:\n\
-        kind 2:\n";
-    single(rt, names, 0, 0, 0, b"ABCDEFGHIJKLMNOPQRSTUVWX")?;
-    single(rt, names, 1, 0, 0, b"\x1F")?;
-    single(rt, names, 2, 0, 0, b"\x20\x7E")?;
-    single(rt, names, 3, 0, 0, b"A\x7F")?;
-    single(rt, names, 4, 0, 0, b"A\x80")?;
-    single(rt, names, 5, 0, 0, b"A\x9F")?;
-    single(rt, names, 6, 0, 0, b"\xA0\xFF")?;
-    single(rt, names, 7, 0, 0, b"")?;
-    single(rt, names, 8, 0, 0, b"A\0B")?;
-    single(rt, names, 9, 0, 5, b"Go")?;
-    single(rt, names, 10, 1, 0, b"Go")?;
-    single(rt, names, 11, 1, 5, b"Go")?;
-    single(rt, names, 12, 1, 5, b"")?;
-    single(rt, names, 13, 2, 0, b"Go")
+    single(rt, "text of 24 bytes:", 0, 0, b"ABCDEFGHIJKLMNOPQRSTUVWX")?;
+    single(rt, "byte 0x1F:", 0, 0, b"\x1F")?;
+    single(rt, "bytes 0x20 and 0x7E:", 0, 0, b"\x20\x7E")?;
+    single(rt, "byte 0x7F:", 0, 0, b"A\x7F")?;
+    single(rt, "byte 0x80:", 0, 0, b"A\x80")?;
+    single(rt, "byte 0x9F:", 0, 0, b"A\x9F")?;
+    single(rt, "bytes 0xA0 and 0xFF:", 0, 0, b"\xA0\xFF")?;
+    single(rt, "no text:", 0, 0, b"")?;
+    single(rt, "a byte after a zero byte:", 0, 0, b"A\0B")?;
+    single(rt, "own text and a lender:", 0, 5, b"Go")?;
+    single(rt, "kind 1:", 1, 0, b"Go")?;
+    single(rt, "kind 1 and a lender:", 1, 5, b"Go")?;
+    single(rt, "kind 1 without a text:", 1, 5, b"")?;
+    single(rt, "kind 2:", 2, 0, b"Go")
 }
 
 // ---- faulty records
 
 // Records of kind 1, which borrowed a text once, whose lender stands before or after; the lowest of two faults; such a house file.
 fn retired(rt: HostRuntime) -> io::Result<()> {
-    let names: &[u8] = b"kind 1, lender before:\n\
-        kind 1, lender before, the lender's label:\n\
-        kind 1, lender after:\n\
-        no text, then kind 1:\n\
-        kind 1, then no text:\n\
-        kind 1 in the house file:\n\
-        kind 1 in the house file, in the translation:\n";
     let zeros = record(0, 0, 0, 0, 0);
     let none = file(0, zeros, zeros);
     let go = record(5, 0, 0, b'G', b'o');
     let back = file(64, go, record(7, 1, 5, 0, 0));
     let ahead = file(64, record(5, 1, 7, 0, 0), record(7, 0, 0, b'N', b'o'));
     let empty = record(5, 0, 0, 0, 0);
-    sample(rt, names, 0, back, none, 7)?;
-    sample(rt, names, 1, back, none, 5)?;
-    sample(rt, names, 2, ahead, none, 5)?;
+    sample(rt, "kind 1, lender before:", back, none, 7)?;
     sample(
         rt,
-        names,
-        3,
+        "kind 1, lender before, the lender's label:",
+        back,
+        none,
+        5,
+    )?;
+    sample(rt, "kind 1, lender after:", ahead, none, 5)?;
+    sample(
+        rt,
+        "no text, then kind 1:",
         file(64, empty, record(7, 1, 5, 0, 0)),
         none,
         7,
     )?;
     sample(
         rt,
-        names,
-        4,
+        "kind 1, then no text:",
         file(64, record(5, 1, 7, 0, 0), record(7, 0, 0, 0, 0)),
         none,
         5,
     )?;
-    sample(rt, names, 5, none, back, 7)?;
-    sample(rt, names, 6, file(32, go, zeros), back, 5)
+    sample(rt, "kind 1 in the house file:", none, back, 7)?;
+    sample(
+        rt,
+        "kind 1 in the house file, in the translation:",
+        file(32, go, zeros),
+        back,
+        5,
+    )
 }
 
 // Actions that do not ascend.
 fn faulty(rt: HostRuntime) -> io::Result<()> {
-    let names: &[u8] = b"equal actions:\n\
-        falling actions:\n";
     let zeros = record(0, 0, 0, 0, 0);
     let none = file(0, zeros, zeros);
     let go = record(5, 0, 0, b'G', b'o');
     let no = record(5, 0, 0, b'N', b'o');
     let high = record(600, 0, 0, b'G', b'o');
-    sample(rt, names, 0, file(64, go, no), none, 5)?;
-    sample(rt, names, 1, file(64, high, no), none, 600)
+    sample(rt, "equal actions:", file(64, go, no), none, 5)?;
+    sample(rt, "falling actions:", file(64, high, no), none, 600)
 }
 
 // A record with these spare bytes, after a good record.
-fn spare(
-    rt: HostRuntime,
-    names: &[u8],
-    i: u32,
-    third: u8,
-    sixth: u8,
-    seventh: u8,
-) -> io::Result<()> {
+fn spare(rt: HostRuntime, name: &str, third: u8, sixth: u8, seventh: u8) -> io::Result<()> {
     let mut bytes = table(file(64, record(5, 0, 0, b'G', b'o'), record(7, 0, 0, b'N', b'o')));
     bytes[35] = third;
     bytes[38] = sixth;
     bytes[39] = seventh;
-    lookup(rt, names, i, &bytes, b"", 7)
+    lookup(rt, name, &bytes, b"", 7)
 }
 
 // Each spare byte.
 fn spares(rt: HostRuntime) -> io::Result<()> {
-    let names: &[u8] = b"spare bytes 0:\n\
-        spare byte 3:\n\
-        spare byte 6:\n\
-        spare byte 7:\n";
-    spare(rt, names, 0, 0, 0, 0)?;
-    spare(rt, names, 1, 1, 0, 0)?;
-    spare(rt, names, 2, 0, 1, 0)?;
-    spare(rt, names, 3, 0, 0, 1)
+    spare(rt, "spare bytes 0:", 0, 0, 0)?;
+    spare(rt, "spare byte 3:", 1, 0, 0)?;
+    spare(rt, "spare byte 6:", 0, 1, 0)?;
+    spare(rt, "spare byte 7:", 0, 0, 1)
 }
 
 // ---- two files
@@ -302,15 +240,6 @@ fn spares(rt: HostRuntime) -> io::Result<()> {
 // Either faulty file hides the labels of both; lengths that are no whole number of records; the translation's refusal comes before the
 // house file's.
 fn hidden(rt: HostRuntime) -> io::Result<()> {
-    let names: &[u8] = b"faulty translation, in the house file:\n\
-        faulty house file, in the translation:\n\
-        translation of 33 bytes:\n\
-        house file of 33 bytes:\n\
-        31 bytes:\n\
-        equal actions, house file of 33 bytes:\n\
-        33 bytes, equal actions in the house file:\n\
-        equal actions, no text in the house file:\n\
-        no text, equal actions in the house file:\n";
     let zeros = record(0, 0, 0, 0, 0);
     let go = record(5, 0, 0, b'G', b'o');
     let none = file(0, zeros, zeros);
@@ -319,68 +248,85 @@ fn hidden(rt: HostRuntime) -> io::Result<()> {
     let long = file(33, go, zeros);
     let empty = file(32, zeros, zeros);
     let equal = file(64, go, record(5, 0, 0, b'N', b'o'));
-    sample(rt, names, 0, bad, good, 5)?;
-    sample(rt, names, 1, good, bad, 5)?;
-    sample(rt, names, 2, long, none, 5)?;
-    sample(rt, names, 3, none, long, 5)?;
-    sample(rt, names, 4, file(31, zeros, zeros), none, 5)?;
-    sample(rt, names, 5, equal, long, 5)?;
-    sample(rt, names, 6, long, equal, 5)?;
-    sample(rt, names, 7, equal, empty, 5)?;
-    sample(rt, names, 8, empty, equal, 5)
+    sample(rt, "faulty translation, in the house file:", bad, good, 5)?;
+    sample(rt, "faulty house file, in the translation:", good, bad, 5)?;
+    sample(rt, "translation of 33 bytes:", long, none, 5)?;
+    sample(rt, "house file of 33 bytes:", none, long, 5)?;
+    sample(rt, "31 bytes:", file(31, zeros, zeros), none, 5)?;
+    sample(rt, "equal actions, house file of 33 bytes:", equal, long, 5)?;
+    sample(
+        rt,
+        "33 bytes, equal actions in the house file:",
+        long,
+        equal,
+        5,
+    )?;
+    sample(
+        rt,
+        "equal actions, no text in the house file:",
+        equal,
+        empty,
+        5,
+    )?;
+    sample(
+        rt,
+        "no text, equal actions in the house file:",
+        empty,
+        equal,
+        5,
+    )
 }
 
 // ---- the number of records
 
 // The first bytes of a file of 2,001 records, as the translation and as the house file.
-fn many(rt: HostRuntime, names: &[u8], i: u32, j: u32, size: usize) -> io::Result<()> {
+fn many(rt: HostRuntime, name: &str, other: &str, size: usize) -> io::Result<()> {
     let mut file = [0u8; 64032];
     sample_labels::fill(&mut file, 2001);
-    if 64032 < size {
+    let Some(part) = file.get(..size) else {
         return Ok(());
-    }
-    let part: &[u8] = &file[..size];
-    lookup(rt, names, i, part, b"", 1999)?;
-    lookup(rt, names, j, b"", part, 27)
+    };
+    lookup(rt, name, part, b"", 1999)?;
+    lookup(rt, other, b"", part, 27)
 }
 
 // The most records, and one record more.
 fn most(rt: HostRuntime) -> io::Result<()> {
-    let names: &[u8] = b"2000 records:\n\
-        2000 records in the house file:\n\
-        2001 records:\n\
-        2001 records in the house file:\n";
-    many(rt, names, 0, 1, 64000)?;
-    many(rt, names, 2, 3, 64032)
+    many(
+        rt,
+        "2000 records:",
+        "2000 records in the house file:",
+        64000,
+    )?;
+    many(
+        rt,
+        "2001 records:",
+        "2001 records in the house file:",
+        64032,
+    )
 }
 
 // ---- texts of one file, which is not checked
 
 // Looks the text of an action up, and prints what comes.
-fn text(rt: HostRuntime, names: &[u8], i: u32, file: &[u8], action: u16) -> io::Result<()> {
+fn text(rt: HostRuntime, name: &str, file: &[u8], action: u16) -> io::Result<()> {
     let found = category::text(file, action);
-    print(rt, b"text, ")?;
-    print_name(rt, names, i)?;
-    number(rt, found.len() as u64)?;
-    bytes(rt, found)?;
-    end(rt)
+    print!(rt; "text, {name} {}", found.len())?;
+    bytes(rt, found)
 }
 
 // Looks a text up in a file of at most two records.
-fn alone(rt: HostRuntime, names: &[u8], i: u32, file: Contents, action: u16) -> io::Result<()> {
-    let t = table(file);
-    let n = file.size;
-    if 64 < n {
-        return Ok(());
+fn alone(rt: HostRuntime, name: &str, file: Contents, action: u16) -> io::Result<()> {
+    match table(file).get(..file.size) {
+        Some(part) => text(rt, name, part, action),
+        None => Ok(()),
     }
-    text(rt, names, i, &t[..n], action)
 }
 
 // Looks a text up in a file of three records.
 fn three(
     rt: HostRuntime,
-    names: &[u8],
-    i: u32,
+    name: &str,
     first: Fields,
     second: Fields,
     third: Fields,
@@ -390,47 +336,43 @@ fn three(
     put(&mut t, 0, first);
     put(&mut t, 1, second);
     put(&mut t, 2, third);
-    text(rt, names, i, &t, action)
+    text(rt, name, &t, action)
 }
 
 // Actions that the file has and lacks; records out of order; a record that is not whole; kinds and a lender, which are not looked at.
 fn order(rt: HostRuntime) -> io::Result<()> {
-    let names: &[u8] = b"below the first:\n\
-        the first:\n\
-        between two:\n\
-        the last:\n\
-        above the last:\n\
-        behind a greater action:\n\
-        before a greater action:\n\
-        behind a lower and a greater action:\n\
-        equal actions:\n\
-        63 bytes:\n\
-        kind 2:\n\
-        kind 1 and a lender:\n\
-        kind 1 without a text:\n";
     let no = record(5, 0, 0, b'N', b'o');
     let go = record(7, 0, 0, b'G', b'o');
     let up = record(600, 0, 0, b'U', b'p');
     let two = file(64, no, up);
-    alone(rt, names, 0, two, 4)?;
-    alone(rt, names, 1, two, 5)?;
-    alone(rt, names, 2, two, 6)?;
-    alone(rt, names, 3, two, 600)?;
-    alone(rt, names, 4, two, 601)?;
-    three(rt, names, 5, up, no, go, 5)?;
-    three(rt, names, 6, no, up, go, 5)?;
-    three(rt, names, 7, no, up, go, 7)?;
-    alone(rt, names, 8, file(64, no, record(5, 0, 0, b'G', b'o')), 5)?;
-    alone(rt, names, 9, file(63, no, up), 600)?;
-    alone(rt, names, 10, file(32, record(5, 2, 0, b'N', b'o'), up), 5)?;
+    alone(rt, "below the first:", two, 4)?;
+    alone(rt, "the first:", two, 5)?;
+    alone(rt, "between two:", two, 6)?;
+    alone(rt, "the last:", two, 600)?;
+    alone(rt, "above the last:", two, 601)?;
+    three(rt, "behind a greater action:", up, no, go, 5)?;
+    three(rt, "before a greater action:", no, up, go, 5)?;
+    three(rt, "behind a lower and a greater action:", no, up, go, 7)?;
     alone(
         rt,
-        names,
-        11,
+        "equal actions:",
+        file(64, no, record(5, 0, 0, b'G', b'o')),
+        5,
+    )?;
+    alone(rt, "63 bytes:", file(63, no, up), 600)?;
+    alone(rt, "kind 2:", file(32, record(5, 2, 0, b'N', b'o'), up), 5)?;
+    alone(
+        rt,
+        "kind 1 and a lender:",
         file(64, record(5, 1, 600, b'N', b'o'), up),
         5,
     )?;
-    alone(rt, names, 12, file(64, record(5, 1, 600, 0, 0), up), 5)
+    alone(
+        rt,
+        "kind 1 without a text:",
+        file(64, record(5, 1, 600, 0, 0), up),
+        5,
+    )
 }
 
 // All samples of labels and of category files.

@@ -2,8 +2,6 @@
 #![tactic(auto)]
 
 mod labels;
-mod lines;
-mod names;
 mod nets;
 mod orders;
 mod walks;

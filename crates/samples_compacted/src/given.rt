@@ -22,10 +22,8 @@ fn spread(f: u8) -> u8 {
 // R's tree for these formulas.
 pub(crate) fn tree_spread() -> [u8; 920] {
     let mut tree = tree_r();
-    let mut k = 0;
-    while k < 23 {
+    for k in 0..23 {
         tree[k * 40 + 32] = spread(tree[k * 40 + 32]);
-        k += 1;
     }
     tree
 }
@@ -33,10 +31,8 @@ pub(crate) fn tree_spread() -> [u8; 920] {
 // A table of 256 records: record 0 is true, 1 to 254 are not 0, and record 255 is true.
 pub(crate) fn many_formulas() -> [u8; 2048] {
     let mut table = [0u8; 2048];
-    let mut i = 1;
-    while i < 255 {
+    for i in 1..255 {
         table[i * 8] = 1;
-        i += 1;
     }
     table
 }
@@ -44,11 +40,9 @@ pub(crate) fn many_formulas() -> [u8; 2048] {
 // 256 records that are all reached from the last: record 0 is true, and each other is "not" of the one before it.
 pub(crate) fn chain() -> [u8; 2048] {
     let mut table = [0u8; 2048];
-    let mut i = 1;
-    while i < 256 {
+    for i in 1..256 {
         table[i * 8] = 1;
         table[i * 8 + 2] = (i - 1) as u8;
-        i += 1;
     }
     table
 }

@@ -7,7 +7,6 @@
 mod calls;
 mod dead;
 mod given;
-mod lines;
 mod many;
 mod refusals;
 

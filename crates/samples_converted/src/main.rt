@@ -6,7 +6,6 @@
 mod calls;
 mod files;
 mod large;
-mod lines;
 mod refusals;
 
 use std::io;

@@ -1,79 +1,71 @@
 // The lines of a join, and of the joint transitions.
-use crate::lines::{FILL, end, number, print, told};
 use join::Numbers;
-use sample_bytes::count;
+use sample_bytes::{FILL, kept};
 use std::io;
 
-// Prints how many bytes of a room from an offset on are as they were before the call, of how many.
-fn kept(rt: HostRuntime, room: &[u8], from: usize) -> io::Result<()> {
-    if room.len() < from {
-        return Ok(());
+// A net to be joined: its number of places, its marking and its table.
+#[derive(Clone, Copy)]
+pub(crate) struct Half<'a> {
+    pub(crate) places: u32,
+    pub(crate) marking: u64,
+    pub(crate) net: &'a [u8],
+}
+
+impl<'a> Half<'a> {
+    pub(crate) fn new(places: u32, marking: u64, net: &'a [u8]) -> Half<'a> {
+        Half {
+            places,
+            marking,
+            net,
+        }
     }
-    told(rt, b", kept", count(&room[from..], FILL) as u64)?;
-    told(rt, b" of", (room.len() - from) as u64)
+
+    // One of three places at marking 3, as net R.
+    pub(crate) fn at_three(net: &'a [u8]) -> Half<'a> {
+        Half::new(3, 3, net)
+    }
 }
 
 // Joins two nets and prints the answer, with how much of the rest of the room is as it was.
 pub(crate) fn join(
     rt: HostRuntime,
-    name: &[u8],
-    first_places: u32,
-    first_marking: u64,
-    first: &[u8],
-    second_places: u32,
-    second_marking: u64,
-    second: &[u8],
+    name: &str,
+    first: Half,
+    second: Half,
     room: &mut [u8],
 ) -> io::Result<Numbers> {
     let said = join::join_numbers(join::join(
-        first_places,
-        first_marking,
-        first,
-        second_places,
-        second_marking,
-        second,
+        first.places,
+        first.marking,
+        first.net,
+        second.places,
+        second.marking,
+        second.net,
         room,
     ));
-    print(rt, name)?;
-    print(rt, b":")?;
-    number(rt, said.number as u64)?;
-    number(rt, said.place)?;
-    number(rt, said.places as u64)?;
-    number(rt, said.marking)?;
-    number(rt, said.length)?;
-    kept(rt, room, said.length as usize)?;
-    end(rt)?;
+    print!(rt; "{name}: {} {} {}", said.number, said.place, said.places)?;
+    let kept = kept(room, said.length as usize);
+    println!(rt; " {} {}{kept}", said.marking, said.length)?;
     Ok(said)
-}
-
-// A byte as a number of 64 bits.
-fn wide(b: u8) -> u64 {
-    b as u64
 }
 
 // Prints the sets, the action and the mark of record t, which lies inside the table.
 fn fields(rt: HostRuntime, table: &[u8], t: u32) -> io::Result<()> {
     let at = t as usize * 24;
-    if table.len() < 24 {
+    let Some(record) = table.get(at..at + 24) else {
         return Ok(());
-    }
-    if table.len() - 24 < at {
-        return Ok(());
-    }
-    number(rt, tables::u64_at(table, at))?;
-    number(rt, tables::u64_at(table, at + 8))?;
-    number(rt, tables::u16_at(table, at + 16) as u64)?;
-    number(rt, wide(table[at + 18]))
+    };
+    let pre = tables::u64_at(record, 0);
+    let post = tables::u64_at(record, 8);
+    let action = tables::u16_at(record, 16);
+    print!(rt; " {pre} {post} {action} {}", record[18])
 }
 
 // Prints what firing t at the marking answers.
 fn step(rt: HostRuntime, places: u32, marking: u64, table: &[u8], t: u32) -> io::Result<()> {
     let said = net::firing_numbers(net::fire(places, marking, table, t));
-    told(rt, b", fired", said.number as u64)?;
-    number(rt, said.place)?;
-    number(rt, said.marking)?;
-    number(rt, said.missing)?;
-    number(rt, said.occupied)
+    print!(rt; ", fired {} {} {}", said.number, said.place, said.marking)?;
+    print!(rt; " {} {}", said.missing, said.occupied)
 }
 
 // Prints the line of transition t of a net.
@@ -84,57 +76,27 @@ pub(crate) fn transition(
     table: &[u8],
     t: u32,
 ) -> io::Result<()> {
-    told(rt, b"  t", t as u64)?;
-    print(rt, b":")?;
+    print!(rt; "  t {t}:")?;
     fields(rt, table, t)?;
     step(rt, places, marking, table, t)?;
-    told(rt, b", conflicts", sample_nets::conflicts(places, table, t))?;
-    end(rt)
-}
-
-// Prints the lines of the first transitions of a net.
-fn transitions(
-    rt: HostRuntime,
-    places: u32,
-    marking: u64,
-    table: &[u8],
-    count: u32,
-) -> io::Result<()> {
-    let mut t: u32 = 0;
-    while t < count {
-        transition(rt, places, marking, table, t)?;
-        t += 1;
-    }
-    Ok(())
+    println!(rt; ", conflicts {}", sample_nets::conflicts(places, table, t))
 }
 
 // Joins two nets into a room of 222 bytes and prints the first transitions of the joint net.
 pub(crate) fn join_small(
     rt: HostRuntime,
-    name: &[u8],
-    first_places: u32,
-    first_marking: u64,
-    first: &[u8],
-    second_places: u32,
-    second_marking: u64,
-    second: &[u8],
+    name: &str,
+    first: Half,
+    second: Half,
     count: u32,
 ) -> io::Result<()> {
     let mut room = [FILL; 222];
-    let said = join(
-        rt,
-        name,
-        first_places,
-        first_marking,
-        first,
-        second_places,
-        second_marking,
-        second,
-        &mut room,
-    )?;
-    let size = said.length as usize;
-    if 222 < size {
+    let said = join(rt, name, first, second, &mut room)?;
+    let Some(table) = room.get(..said.length as usize) else {
         return Ok(());
+    };
+    for t in 0..count {
+        transition(rt, said.places, said.marking, table, t)?;
     }
-    transitions(rt, said.places, said.marking, &room[..size], count)
+    Ok(())
 }

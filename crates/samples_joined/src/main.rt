@@ -6,7 +6,6 @@
 
 mod calls;
 mod halves;
-mod lines;
 mod refusals;
 mod sizes;
 

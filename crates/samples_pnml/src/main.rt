@@ -3,7 +3,6 @@
 
 mod calls;
 mod drafts;
-mod lines;
 mod nets;
 mod refusals;
 

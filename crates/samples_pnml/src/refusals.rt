@@ -1,13 +1,13 @@
 // The writer's answers in their order. No room is lent but where it is said.
 use crate::calls::{first, write, write_in};
-use crate::lines::FILL;
+use sample_bytes::FILL;
 use sample_nets::{net_r, transition};
 use std::io;
 
 // Writes the first bytes of a table into no room.
 fn cut(
     rt: HostRuntime,
-    name: &[u8],
+    name: &str,
     places: u32,
     marking: u64,
     net: &[u8],
@@ -19,16 +19,16 @@ fn cut(
 
 // 1 before 2 before 3 before 7 before 12, by net R, by R with a spare byte of t2 that is not zero, and by R with mark 2 of t1.
 fn orders(rt: HostRuntime, net: &[u8], spare: &[u8], mark: &[u8]) -> io::Result<()> {
-    cut(rt, b"no place, 71 bytes", 0, 8, spare, 71)?;
-    cut(rt, b"65 places, no bytes", 65, 8, spare, 0)?;
-    cut(rt, b"71 bytes, a set beyond", 2, 8, net, 71)?;
-    cut(rt, b"no bytes", 3, 8, net, 0)?;
-    cut(rt, b"a set beyond, marking 8", 2, 8, net, 72)?;
-    cut(rt, b"a spare byte, marking 8", 3, 8, spare, 72)?;
-    cut(rt, b"mark 2 of t1, marking 8", 3, 8, mark, 72)?;
-    cut(rt, b"marking 8, no room", 3, 8, net, 72)?;
-    cut(rt, b"R, no room", 3, 3, net, 72)?;
-    cut(rt, b"t0 alone, no room", 3, 3, net, 24)
+    cut(rt, "no place, 71 bytes", 0, 8, spare, 71)?;
+    cut(rt, "65 places, no bytes", 65, 8, spare, 0)?;
+    cut(rt, "71 bytes, a set beyond", 2, 8, net, 71)?;
+    cut(rt, "no bytes", 3, 8, net, 0)?;
+    cut(rt, "a set beyond, marking 8", 2, 8, net, 72)?;
+    cut(rt, "a spare byte, marking 8", 3, 8, spare, 72)?;
+    cut(rt, "mark 2 of t1, marking 8", 3, 8, mark, 72)?;
+    cut(rt, "marking 8, no room", 3, 8, net, 72)?;
+    cut(rt, "R, no room", 3, 3, net, 72)?;
+    cut(rt, "t0 alone, no room", 3, 3, net, 24)
 }
 
 // 65 transitions.
@@ -38,7 +38,7 @@ fn many(rt: HostRuntime) -> io::Result<()> {
     let mut text = [FILL; 10];
     write(
         rt,
-        b"65 transitions, a set and a marking beyond",
+        "65 transitions, a set and a marking beyond",
         1,
         2,
         &net,

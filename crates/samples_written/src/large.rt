@@ -8,22 +8,22 @@ use sample_written::{chains, longest_chain};
 use std::io;
 
 // Record f of the chains with so many bytes of a room.
-fn chain_in(rt: HostRuntime, name: &[u8], f: u16, room: &mut [u8], size: usize) -> io::Result<()> {
+fn chain_in(rt: HostRuntime, name: &str, f: u16, room: &mut [u8], size: usize) -> io::Result<()> {
     let net = transition(0, 0, 0);
     write_in(rt, name, &ask(1, f, 1, 0), &net, &chains(), room, size)
 }
 
 // 65,535 and 65,536 nodes, and one more, in a room for 65,537.
 fn counts(rt: HostRuntime, room: &mut [u8]) -> io::Result<()> {
-    chain_in(rt, b"15 ands", 15, room, 2621480)?;
-    chain_in(rt, b"not 15 ands", 16, room, 2621480)?;
-    chain_in(rt, b"not not 15 ands", 17, room, 2621480)
+    chain_in(rt, "15 ands", 15, room, 2621480)?;
+    chain_in(rt, "not 15 ands", 16, room, 2621480)?;
+    chain_in(rt, "not not 15 ands", 17, room, 2621480)
 }
 
 // 65,536 nodes, with just the room and with a byte less.
 fn lengths(rt: HostRuntime, room: &mut [u8]) -> io::Result<()> {
-    chain_in(rt, b"not 15 ands, just room", 16, room, 2621440)?;
-    chain_in(rt, b"not 15 ands, a byte short", 16, room, 2621439)
+    chain_in(rt, "not 15 ands, just room", 16, room, 2621440)?;
+    chain_in(rt, "not 15 ands, a byte short", 16, room, 2621439)
 }
 
 // 2^256 - 1 nodes.
@@ -32,7 +32,7 @@ fn longest(rt: HostRuntime, room: &mut [u8]) -> io::Result<()> {
     let formulas = longest_chain();
     write_in(
         rt,
-        b"255 ands",
+        "255 ands",
         &ask(1, 255, 1, 0),
         &net,
         &formulas,
@@ -67,7 +67,7 @@ fn small(rt: HostRuntime) -> io::Result<()> {
     let asked = ask(1, 19, 1, 0);
     write_small(
         rt,
-        b"and, left true by too many, right false",
+        "and, left true by too many, right false",
         &asked,
         &net,
         &chains(),

@@ -5,7 +5,6 @@
 mod calls;
 mod choices;
 mod large;
-mod lines;
 mod operators;
 mod refusals;
 mod rooms;

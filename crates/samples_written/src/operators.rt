@@ -6,30 +6,30 @@ use sample_written::{operators, untils};
 use std::io;
 
 // Record f of the operators' formulas at a marking.
-fn at(rt: HostRuntime, name: &[u8], f: u16, marking: u64) -> io::Result<()> {
+fn at(rt: HostRuntime, name: &str, f: u16, marking: u64) -> io::Result<()> {
     write_small(rt, name, &ask(marking, f, 3, 0), &net_r(), &operators())
 }
 
 // "True", "not" and "and".
 fn connectives(rt: HostRuntime) -> io::Result<()> {
-    at(rt, b"true", 0, 3)?;
-    at(rt, b"not true", 2, 3)?;
-    at(rt, b"not not true", 3, 3)?;
-    at(rt, b"not, of a step that is not there", 4, 3)?;
-    at(rt, b"not, of a step that is there", 4, 5)?;
-    at(rt, b"and", 5, 3)?;
-    at(rt, b"and of two ands", 6, 3)?;
-    at(rt, b"and, left false", 7, 3)?;
-    at(rt, b"and, right false", 8, 3)?;
-    at(rt, b"and, both false", 9, 3)
+    at(rt, "true", 0, 3)?;
+    at(rt, "not true", 2, 3)?;
+    at(rt, "not not true", 3, 3)?;
+    at(rt, "not, of a step that is not there", 4, 3)?;
+    at(rt, "not, of a step that is there", 4, 5)?;
+    at(rt, "and", 5, 3)?;
+    at(rt, "and of two ands", 6, 3)?;
+    at(rt, "and, left false", 7, 3)?;
+    at(rt, "and, right false", 8, 3)?;
+    at(rt, "and, both false", 9, 3)
 }
 
 // Operator 3.
 fn steps(rt: HostRuntime) -> io::Result<()> {
-    at(rt, b"step", 1, 5)?;
-    at(rt, b"step, not enabled", 1, 3)?;
-    at(rt, b"step after a step", 10, 3)?;
-    at(rt, b"step, false after it", 11, 3)
+    at(rt, "step", 1, 5)?;
+    at(rt, "step, not enabled", 1, 3)?;
+    at(rt, "step after a step", 10, 3)?;
+    at(rt, "step, false after it", 11, 3)
 }
 
 // The same steps where t1 is optional.
@@ -38,14 +38,14 @@ fn optional_steps(rt: HostRuntime) -> io::Result<()> {
     let table = operators();
     write_small(
         rt,
-        b"optional step, then a step",
+        "optional step, then a step",
         &ask(3, 10, 3, 0),
         &net,
         &table,
     )?;
     write_small(
         rt,
-        b"optional step, false after it",
+        "optional step, false after it",
         &ask(3, 11, 3, 0),
         &net,
         &table,
@@ -53,20 +53,20 @@ fn optional_steps(rt: HostRuntime) -> io::Result<()> {
 }
 
 // Record f of the formulas with until at marking 3.
-fn until(rt: HostRuntime, name: &[u8], f: u16) -> io::Result<()> {
+fn until(rt: HostRuntime, name: &str, f: u16) -> io::Result<()> {
     write_small(rt, name, &ask(3, f, 3, 0), &net_r(), &untils())
 }
 
 // An until that is reached, and one that is not.
 fn with_until(rt: HostRuntime) -> io::Result<()> {
-    until(rt, b"until on some run", 1)?;
-    until(rt, b"until on all runs", 2)?;
-    until(rt, b"not, of until", 3)?;
-    until(rt, b"and, until right", 4)?;
-    until(rt, b"step that is not there, to until", 5)?;
-    until(rt, b"and, left false, until right", 8)?;
-    until(rt, b"and, until not reached", 6)?;
-    until(rt, b"not and, until not reached", 7)
+    until(rt, "until on some run", 1)?;
+    until(rt, "until on all runs", 2)?;
+    until(rt, "not, of until", 3)?;
+    until(rt, "and, until right", 4)?;
+    until(rt, "step that is not there, to until", 5)?;
+    until(rt, "and, left false, until right", 8)?;
+    until(rt, "and, until not reached", 6)?;
+    until(rt, "not and, until not reached", 7)
 }
 
 // All of them.

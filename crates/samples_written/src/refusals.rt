@@ -1,6 +1,6 @@
 // Refused input, over net R with the formulas of document 01 and four without until.
 use crate::calls::{write_in, write_small};
-use sample_bytes::put_number;
+use sample_bytes::put_bytes;
 use sample_nets::{net_r, transition};
 use sample_trees::{ask, formula};
 use sample_written::{formulas_r, put_formula};
@@ -9,7 +9,7 @@ use std::io;
 // 1 and 7: an ask.
 fn asked(
     rt: HostRuntime,
-    name: &[u8],
+    name: &str,
     marking: u64,
     f: u16,
     places: u8,
@@ -25,52 +25,52 @@ fn ask_lengths(rt: HostRuntime) -> io::Result<()> {
     short[10] = 3;
     let mut long = [0u8; 13];
     long[10] = 3;
-    write_small(rt, b"ask of 11 bytes", &short, &net_r(), &formulas_r())?;
-    write_small(rt, b"ask of 13 bytes", &long, &net_r(), &formulas_r())
+    write_small(rt, "ask of 11 bytes", &short, &net_r(), &formulas_r())?;
+    write_small(rt, "ask of 13 bytes", &long, &net_r(), &formulas_r())
 }
 
 // Asks.
 fn asks(rt: HostRuntime) -> io::Result<()> {
     ask_lengths(rt)?;
-    asked(rt, b"no places", 3, 1, 0, 0)?;
-    asked(rt, b"65 places", 3, 1, 65, 0)?;
-    asked(rt, b"side 2", 3, 1, 3, 2)?;
-    asked(rt, b"marking 8", 8, 1, 3, 0)?;
-    asked(rt, b"formula 7", 3, 7, 3, 0)
+    asked(rt, "no places", 3, 1, 0, 0)?;
+    asked(rt, "65 places", 3, 1, 65, 0)?;
+    asked(rt, "side 2", 3, 1, 3, 2)?;
+    asked(rt, "marking 8", 8, 1, 3, 0)?;
+    asked(rt, "formula 7", 3, 7, 3, 0)
 }
 
 // 2 and 3: a net.
-fn over(rt: HostRuntime, name: &[u8], net: &[u8]) -> io::Result<()> {
+fn over(rt: HostRuntime, name: &str, net: &[u8]) -> io::Result<()> {
     write_small(rt, name, &ask(3, 1, 3, 0), net, &formulas_r())
 }
 
 // R with another byte in its net.
-fn with_net_byte(rt: HostRuntime, name: &[u8], at: usize, value: u64) -> io::Result<()> {
+fn with_net_byte(rt: HostRuntime, name: &str, at: usize, value: u8) -> io::Result<()> {
     let mut net = net_r();
-    put_number(&mut net, at, 1, value);
+    put_bytes(&mut net, at, &[value]);
     over(rt, name, &net)
 }
 
 // Nets.
 fn nets(rt: HostRuntime) -> io::Result<()> {
-    over(rt, b"net of no bytes", b"")?;
-    over(rt, b"net of 71 bytes", &[0; 71])?;
-    over(rt, b"net of 65 records", &[0; 1560])?;
-    with_net_byte(rt, b"pre set of t0 beyond the places", 0, 9)?;
-    with_net_byte(rt, b"post set of t2 beyond the places", 56, 8)?;
-    with_net_byte(rt, b"mark 2 of t1", 42, 2)?;
-    with_net_byte(rt, b"spare byte of t2", 71, 1)
+    over(rt, "net of no bytes", b"")?;
+    over(rt, "net of 71 bytes", &[0; 71])?;
+    over(rt, "net of 65 records", &[0; 1560])?;
+    with_net_byte(rt, "pre set of t0 beyond the places", 0, 9)?;
+    with_net_byte(rt, "post set of t2 beyond the places", 56, 8)?;
+    with_net_byte(rt, "mark 2 of t1", 42, 2)?;
+    with_net_byte(rt, "spare byte of t2", 71, 1)
 }
 
 // 4 and 5: a table of formulas.
-fn with(rt: HostRuntime, name: &[u8], formulas: &[u8]) -> io::Result<()> {
+fn with(rt: HostRuntime, name: &str, formulas: &[u8]) -> io::Result<()> {
     write_small(rt, name, &ask(3, 1, 3, 0), &net_r(), formulas)
 }
 
 // R's formulas with another record f.
 fn with_formula(
     rt: HostRuntime,
-    name: &[u8],
+    name: &str,
     f: u16,
     operator: u8,
     left: u16,
@@ -86,23 +86,23 @@ fn with_formula(
 fn with_spare(rt: HostRuntime) -> io::Result<()> {
     let mut table = formulas_r();
     table[9] = 1;
-    with(rt, b"spare byte of record 1", &table)
+    with(rt, "spare byte of record 1", &table)
 }
 
 // Formulas.
 fn formulas(rt: HostRuntime) -> io::Result<()> {
-    with(rt, b"formulas of no bytes", b"")?;
-    with(rt, b"formulas of 55 bytes", &[0; 55])?;
-    with(rt, b"257 formulas", &[0; 2056])?;
-    with_formula(rt, b"operator 6", 0, 6, 0, 0, 0)?;
-    with_formula(rt, b"not of record 0 in record 0", 0, 1, 0, 0, 0)?;
-    with_formula(rt, b"operand 5 in record 5", 5, 2, 3, 5, 0)?;
-    with_formula(rt, b"action of an and in record 6", 6, 2, 1, 3, 1)?;
+    with(rt, "formulas of no bytes", b"")?;
+    with(rt, "formulas of 55 bytes", &[0; 55])?;
+    with(rt, "257 formulas", &[0; 2056])?;
+    with_formula(rt, "operator 6", 0, 6, 0, 0, 0)?;
+    with_formula(rt, "not of record 0 in record 0", 0, 1, 0, 0, 0)?;
+    with_formula(rt, "operand 5 in record 5", 5, 2, 3, 5, 0)?;
+    with_formula(rt, "action of an and in record 6", 6, 2, 1, 3, 1)?;
     with_spare(rt)
 }
 
 // The formula that is true, at the marking of place 63, with so many places.
-fn edge(rt: HostRuntime, name: &[u8], places: u8) -> io::Result<()> {
+fn edge(rt: HostRuntime, name: &str, places: u8) -> io::Result<()> {
     let asked = ask(9223372036854775808, 0, places, 0);
     write_small(rt, name, &asked, &transition(0, 0, 0), &formula(0, 0, 0, 0))
 }
@@ -110,7 +110,7 @@ fn edge(rt: HostRuntime, name: &[u8], places: u8) -> io::Result<()> {
 // An ask over two tables, with no room.
 fn roomless(
     rt: HostRuntime,
-    name: &[u8],
+    name: &str,
     asked: [u8; 12],
     net: &[u8],
     formulas: &[u8],
@@ -127,14 +127,14 @@ fn orders(
     formulas: &[u8],
     bad: &[u8],
 ) -> io::Result<()> {
-    roomless(rt, b"1 first", ask(8, 2, 0, 0), &[9; 71], &[6; 55])?;
-    roomless(rt, b"then 2", ask(8, 2, 3, 0), &[9; 71], &[6; 55])?;
-    roomless(rt, b"then 3", ask(8, 2, 3, 0), beyond, &[6; 55])?;
-    roomless(rt, b"then 4", ask(8, 2, 3, 0), net, &[6; 55])?;
-    roomless(rt, b"then 5", ask(8, 2, 3, 0), net, bad)?;
-    roomless(rt, b"then 7", ask(8, 2, 3, 0), net, formulas)?;
-    roomless(rt, b"then 14", ask(3, 2, 3, 0), net, formulas)?;
-    roomless(rt, b"then 12", ask(3, 3, 3, 0), net, formulas)
+    roomless(rt, "1 first", ask(8, 2, 0, 0), &[9; 71], &[6; 55])?;
+    roomless(rt, "then 2", ask(8, 2, 3, 0), &[9; 71], &[6; 55])?;
+    roomless(rt, "then 3", ask(8, 2, 3, 0), beyond, &[6; 55])?;
+    roomless(rt, "then 4", ask(8, 2, 3, 0), net, &[6; 55])?;
+    roomless(rt, "then 5", ask(8, 2, 3, 0), net, bad)?;
+    roomless(rt, "then 7", ask(8, 2, 3, 0), net, formulas)?;
+    roomless(rt, "then 14", ask(3, 2, 3, 0), net, formulas)?;
+    roomless(rt, "then 12", ask(3, 3, 3, 0), net, formulas)
 }
 
 // The same over R's tables, R with a pre set beyond the places, and formulas of which record 0 has operator 6.
@@ -151,7 +151,7 @@ pub(crate) fn print_all(rt: HostRuntime) -> io::Result<()> {
     asks(rt)?;
     nets(rt)?;
     formulas(rt)?;
-    edge(rt, b"marking 63 of 64 places", 64)?;
-    edge(rt, b"marking 63 of 63 places", 63)?;
+    edge(rt, "marking 63 of 64 places", 64)?;
+    edge(rt, "marking 63 of 63 places", 63)?;
     in_order(rt)
 }

@@ -1,12 +1,13 @@
 -- Bytes of a table that are stored into a room one after the other. Assumes nothing.
-use mathlib.Core.Path.{◌≡◌, refl, sym, ap, ◌∙◌}
-use mathlib.Core.List.{List}
+use mathlib.Core.Path.{◌≡◌, refl, sym, ap, ap₂, ◌∙◌}
+use mathlib.Core.List.{List, [], ◌∷◌}
 use Prim.Native.Nat.{ℕ, ◌+◌, ◌≤◌, ◌<◌}
 use native.Mathlib.Nat.{le_antisymm}
+use native.Mathlib.Numerals.{add-one}
 use native.Mathlib.Omega.{arith}
 use lib.ListN.{length, get_or, set, take, drop, length-drop, length-set}
-use lib.Seq.{sets, get_or-drop}
-use Rattle.texts.proofs.Line.{copied_more as byte_more}
+use lib.Seq.{sets, get_or-drop, take-suc, length-take-le}
+use Rattle.texts.proofs.Buffers.{sets_append}
 
 -- the room with the first k bytes from an offset of the table on
 pub record Copied (table : List ℕ) (from : ℕ) (room₀ : List ℕ) (at k : ℕ) (room : List ℕ) : Type 0 where
@@ -21,9 +22,16 @@ module _ {table : List ℕ} {from : ℕ} {room₀ : List ℕ} {at k : ℕ} {room
   copied_more h =
       record {
         size = length-set room (at + k) (get_or table (from + k) 0) ∙ c.size;
-        stored = byte_more room₀ (drop from table) at k (get_or table (from + k) 0) room inside c.stored (sym (get_or-drop from table k 0));
+        stored =
+            ap₂ (λ (m : List ℕ) (x : ℕ). set m (at + k) x) c.stored (sym (get_or-drop from table k 0))
+            ∙ ap (λ (j : ℕ). set (sets room₀ at (take k part)) (at + j) (get_or part k 0)) (sym (length-take-le k part (omega (arith, inside))))
+            ∙ sets_append (take k part) (get_or part k 0 ∷ []) room₀ at
+            ∙ ap (λ (ws : List ℕ). sets room₀ at ws) (sym (ap (λ (j : ℕ). take j part) (add-one k) ∙ take-suc part k 0 inside));
       }
     where
+      part : List ℕ
+      part = drop from table
+
       inside : k < length (drop from table)
       inside = rw (length-drop from table) (omega arith)
 

@@ -7,3 +7,4 @@ pub mod Counts
 pub mod Scans
 pub mod Parts
 pub mod Laid
+pub mod Checks

@@ -1,12 +1,14 @@
 -- Little-endian numbers: a number of m + n bytes is one of m bytes and, above it, one of n; its bound. For any number of bytes.
 -- Assumes nothing.
 use mathlib.Core.Path.{◌≡◌, sym, ap, ap₂, ◌∙◌, subst}
-use mathlib.Core.List.{List}
+use mathlib.Core.List.{List, [], ◌∷◌}
 use Prim.Native.Nat.{ℕ, zero, suc, ◌+◌, ◌*◌, ◌^◌, ◌<◌}
-use native.Mathlib.Nat.{zero-add, suc-add, add-zero, add_assoc, mul-add, mul_assoc, one-mul, pow-succ', lt-suc_self}
+use native.Mathlib.Nat.{zero-add, suc-add, add-zero, add_assoc, mul-add, mul_assoc, mul_comm, one-mul, pow-succ', lt-suc_self}
+use native.Mathlib.Numerals.{add-one}
 use native.Mathlib.Omega.{arith}
 use lib.ListN.{get_or, drop}
 use lib.Seq.{drop-drop, get_or-drop}
+use Rattle.std.specs.Int.{w16, w32, w64, from_le_bytes, byte_worth, sum_through}
 use Rattle.tables.specs.Bytes.{little, field}
 
 little_split : (m n : ℕ) (l : List ℕ) → little (m + n) l ≡ little m l + 256 ^ m * little n (drop m l)
@@ -46,6 +48,36 @@ field_two at l =
         sym (get_or-drop (at + 1) l 0 0 ∙ ap (λ (x : ℕ). get_or l x 0) (add-zero (at + 1)))
         ∙ ap (λ x. get_or x 0 0) (sym (drop-drop 1 at l))
         ∙ sym (add-zero (get_or (drop 1 (drop at l)) 0 0))
+
+-- the number that the library makes of the bytes from an offset on, the lowest first
+field_sum : (n at : ℕ) (l : List ℕ) → sum_through (λ i. byte_worth i (get_or l (at + i) 0)) n ≡ field (suc n) at l
+field_sum zero at l = ap (λ (x : ℕ). get_or l x 0) (add-zero at) ∙ field_one at l
+field_sum (suc n) at l =
+    ap₂ ◌+◌
+    (field_sum n at l)
+    (ap (λ (x : ℕ). x * 256 ^ suc n) (field_one (at + suc n) l) ∙ mul_comm (field 1 (at + suc n) l) (256 ^ suc n))
+    ∙ sym (field_split (suc n) 1 at l)
+    ∙ ap (λ (x : ℕ). field x at l) (add-one (suc n))
+
+-- its first byte stands at the offset itself
+module _ (at : ℕ) (l : List ℕ) where
+  first_byte : get_or l (at + 0) 0 ≡ get_or l at 0
+  first_byte = ap (λ (x : ℕ). get_or l x 0) (add-zero at)
+
+  pub field_of_two : from_le_bytes w16 (get_or l at 0 ∷ get_or l (at + 1) 0 ∷ []) ≡ field 2 at l
+  field_of_two = ap (λ (b : ℕ). b + get_or l (at + 1) 0 * 256) (sym first_byte) ∙ field_sum 1 at l
+
+  pub field_of_four : from_le_bytes w32 (get_or l at 0 ∷ get_or l (at + 1) 0 ∷ get_or l (at + 2) 0 ∷ get_or l (at + 3) 0 ∷ []) ≡ field 4 at l
+  field_of_four =
+      ap (λ (b : ℕ). b + get_or l (at + 1) 0 * 256 + get_or l (at + 2) 0 * 256 ^ 2 + get_or l (at + 3) 0 * 256 ^ 3) (sym first_byte)
+      ∙ field_sum 3 at l
+
+  pub field_of_eight : from_le_bytes w64 (get_or l at 0 ∷ get_or l (at + 1) 0 ∷ get_or l (at + 2) 0 ∷ get_or l (at + 3) 0
+      ∷ get_or l (at + 4) 0 ∷ get_or l (at + 5) 0 ∷ get_or l (at + 6) 0 ∷ get_or l (at + 7) 0 ∷ []) ≡ field 8 at l
+  field_of_eight =
+      ap (λ (b : ℕ). b + get_or l (at + 1) 0 * 256 + get_or l (at + 2) 0 * 256 ^ 2 + get_or l (at + 3) 0 * 256 ^ 3
+      + get_or l (at + 4) 0 * 256 ^ 4 + get_or l (at + 5) 0 * 256 ^ 5 + get_or l (at + 6) 0 * 256 ^ 6 + get_or l (at + 7) 0 * 256 ^ 7) (sym first_byte)
+      ∙ field_sum 7 at l
 
 -- each entry of a list of bytes is below 256
 unfoldable pub Bytes : List ℕ → Type 0

@@ -6,7 +6,7 @@ use Prim.Native.Nat.{ℕ, ◌*◌, ◌/◌, ◌≤◌, ◌<◌}
 use native.Mathlib.Nat.{le_trans, le_of_eq, div-mul-le_self}
 use lib.Dec.{eqb, ltb}
 use borrow.Author.Tests.{lt-ltb, le-ltb, ltb-false, eqb-true, eqb-false}
-use Rattle.tables.specs.declared.RecordCount.TheVariants.{Whole, Refused}
+use Rattle.std.proofs.Common.{Some, None}
 use Rattle.tables.specs.Lists.{first}
 use Rattle.tables.specs.Sizes.{sized, records_of}
 use Rattle.tables.specs.Faults.{Fault, no_fault, fault, or_else, scan_fault}
@@ -15,14 +15,14 @@ use Rattle.tables.proofs.Entries.{first_ext, first_none, before_first}
 use Rattle.tables.proofs.Tests.{if_true, if_false}
 
 module _ (sn rn size least most : ℕ) (bad : ℕ → Bool) (len : ℕ) where
-  pub scan_size : records_of size least most len ≡ Refused → fault sn 0 ≡ scan_fault sn rn size least most bad len
+  pub scan_size : records_of size least most len ≡ None → fault sn 0 ≡ scan_fault sn rn size least most bad len
   unfolding scan_fault
   scan_size e =
       sym
       (ap (λ b. cond b (cond (ltb (first bad (len / size)) (len / size)) (fault rn (first bad (len / size))) no_fault) (fault sn 0))
       (refused_sized size least most len e))
 
-  sized_scan : (n : ℕ) → records_of size least most len ≡ Whole n
+  sized_scan : (n : ℕ) → records_of size least most len ≡ Some n
       → scan_fault sn rn size least most bad len ≡ cond (ltb (first bad n) n) (fault rn (first bad n)) no_fault
   unfolding scan_fault
   sized_scan n e =
@@ -30,18 +30,18 @@ module _ (sn rn size least most : ℕ) (bad : ℕ → Bool) (len : ℕ) where
       (whole_sized size least most len n e)
       ∙ ap (λ (k : ℕ). cond (ltb (first bad k) k) (fault rn (first bad k)) no_fault) (sym (whole_count size least most len n e))
 
-  pub scan_record : (n b : ℕ) → records_of size least most len ≡ Whole n → b ≡ first bad n → b < n
+  pub scan_record : (n b : ℕ) → records_of size least most len ≡ Some n → b ≡ first bad n → b < n
       → fault rn b ≡ scan_fault sn rn size least most bad len
   scan_record n b e p h =
       ap (fault rn) p
       ∙ sym (sized_scan n e ∙ ap (λ t. cond t (fault rn (first bad n)) no_fault) (ap (λ (k : ℕ). ltb k n) (sym p) ∙ lt-ltb b n h))
 
-  pub scan_good : (n b : ℕ) → records_of size least most len ≡ Whole n → b ≡ first bad n → n ≤ b
+  pub scan_good : (n b : ℕ) → records_of size least most len ≡ Some n → b ≡ first bad n → n ≤ b
       → no_fault ≡ scan_fault sn rn size least most bad len
   scan_good n b e p h =
       sym (sized_scan n e ∙ ap (λ t. cond t (fault rn (first bad n)) no_fault) (ap (λ (k : ℕ). ltb k n) (sym p) ∙ le-ltb b n h))
 
-  pub records_inside : (n : ℕ) → records_of size least most len ≡ Whole n → n * size ≤ len
+  pub records_inside : (n : ℕ) → records_of size least most len ≡ Some n → n * size ≤ len
   records_inside n e = le_trans (le_of_eq (ap (λ (k : ℕ). k * size) (whole_count size least most len n e))) (div-mul-le_self len size)
 
   -- a table with no fault has its size, and no record of it is bad

@@ -4,3 +4,4 @@ pub mod Lists
 pub mod Below
 pub mod Sizes
 pub mod Faults
+pub mod Checks

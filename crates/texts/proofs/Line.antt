@@ -3,10 +3,9 @@ use mathlib.Core.Path.{◌≡◌, refl, sym, ap, ap₂, ◌∙◌, subst⁻¹}
 use mathlib.Core.List.{List, [], ◌∷◌, ◌++◌}
 use Prim.Native.Nat.{ℕ, ◌+◌, ◌/◌, ◌%◌, ◌≤◌, ◌<◌}
 use native.Mathlib.Nat.{zero-add, add_assoc}
-use native.Mathlib.Numerals.{add-one}
 use native.Mathlib.Omega.{arith}
-use lib.ListN.{length, take, drop, get_or, set, length-append}
-use lib.Seq.{sets, sets-eq, length-sets, take-suc, take_at, drop_at, take-length, length-take-le}
+use lib.ListN.{length, take, drop, set, length-append}
+use lib.Seq.{sets, sets-eq, length-sets, take_at, drop_at}
 use Rattle.texts.specs.Text.{decimal}
 use Rattle.texts.specs.Line.{Put}
 use Rattle.texts.proofs.Digits.{decimal_one, decimal_more}
@@ -35,24 +34,6 @@ whole {l₀} {l₁} {vs} {r} h p =
       ap (λ (l : List ℕ). take r l) all ∙ take_at vs (drop r l₀) r e,
       ap (λ (l : List ℕ). drop r l) all ∙ drop_at vs (drop r l₀) r e,
     )
-
--- a copy that has come to byte i: one byte more
-pub copied_more : (l w : List ℕ) (at i v : ℕ) (l' : List ℕ) → i < length w → l' ≡ sets l at (take i w) → v ≡ get_or w i 0
-    → set l' (at + i) v ≡ sets l at (take (i + 1) w)
-copied_more l w at i v l' h e q =
-    ap₂ (λ (m : List ℕ) (x : ℕ). set m (at + i) x) e q
-    ∙ ap (λ (k : ℕ). set (sets l at (take i w)) (at + k) (get_or w i 0)) (sym (length-take-le i w (omega arith)))
-    ∙ sets_append (take i w) (get_or w i 0 ∷ []) l at
-    ∙ ap (λ (ws : List ℕ). sets l at ws) (sym (ap (λ (k : ℕ). take k w) (add-one i) ∙ take-suc w i 0 h))
-
--- all of it copied
-pub copied_all : (l w : List ℕ) (at i : ℕ) (l' : List ℕ) → at + length w ≤ 40 → i ≡ length w → l' ≡ sets l at (take i w) → Put l l' at w (at + i)
-copied_all l w at i l' k h e =
-    record {
-      next = ap (λ (k : ℕ). at + k) h;
-      bytes = e ∙ ap (λ (k : ℕ). sets l at (take k w)) h ∙ ap (λ (ws : List ℕ). sets l at ws) (take-length w);
-      room = omega arith;
-    }
 
 -- ---- a number, digit by digit
 

@@ -10,12 +10,9 @@ pub fn put_word(line: &mut [u8; 40], at: usize, word: &[u8]) -> usize
     requires { at + length word.now ≤ 40 }
     ensures { lines.Put line.old line.new at word.now result }
 {
-    let mut i = 0;
-    while i < word.len() {
-        line[at + i] = word[i];
-        i += 1;
-    }
-    at + i
+    let end = at + word.len();
+    line[at..end].copy_from_slice(word);
+    end
 }
 
 // Writes a number in decimal into the line from an index on, and answers the index after it.

@@ -1,13 +1,14 @@
 -- The writer's answer, by what each way through the code has found. Assumes nothing.
 use mathlib.Core.Path.{◌≡◌, refl, sym, ap, ap₂, ◌∙◌, subst}
-use mathlib.Core.Bool.{true, false, cond, not, ◌&&◌}
+use mathlib.Core.Bool.{Bool, true, false, cond, not, ◌&&◌}
 use mathlib.Core.Logic.{◌⊎◌, inl, inr}
 use mathlib.Core.List.{List}
-use Prim.Native.Nat.{ℕ, zero, suc, ◌*◌, ◌+◌, ◌^◌, ◌≤◌, ◌<◌}
+use Prim.Native.Nat.{ℕ, zero, suc, ◌*◌, ◌/◌, ◌^◌, ◌≤◌, ◌<◌}
 use native.Mathlib.Omega.{arith}
+use Rattle.std.proofs.Common.{Ok, Err}
 use lib.ListN.{length, get_or, replicate, length-replicate}
 use lib.Dec.{eqb, leb, ltb}
-use borrow.Author.Tests.{eq-eqb, ne_eqb, leb-true, lt-leb, ltb-true, not-true, not-false}
+use borrow.Author.Tests.{eq-eqb, leb-true, lt-leb, ltb-true, not-true, not-false}
 use Rattle.bitset.specs.Sets.{within}
 use Rattle.tables.specs.Sizes.{sized}
 use Rattle.tables.specs.Faults.{no_fault, fault}
@@ -19,26 +20,29 @@ use Rattle.pctl.specs.Table.{formulas}
 use Rattle.pctl.specs.Formula.{formula}
 use Rattle.nodes.specs.declared.Ask.{Ask}
 use Rattle.nodes.specs.Nodes.{ask_size_lem, node_size, ask_of}
-use Rattle.checker.specs.Outcomes.{ask_inside, tree_sized, input, input_fault, net_for}
+use Rattle.checker.specs.Outcomes.{ask_inside, tree_sized, fault_of, input_fault, net_for}
 use Rattle.checker.specs.declared.InputFault.{InputFault}
-use Rattle.checker.proofs.Scans.{ask-bytes}
+use Rattle.checker.specs.declared.InputFault.TheVariants.{Ask as BadAsk, Net as BadNet, Formulas, Tree, Last}
+use Rattle.checker.proofs.Scans.{ask-bytes, told_number}
+use Rattle.net.proofs.Answers.{refusal_number}
 use Rattle.checker.proofs.Admitted.{Admitted, input_passed}
 use Rattle.tree_shape.specs.Evaluation.{until_free}
 use Rattle.tree_shape.specs.Trees.{roots, size}
 use Rattle.tree_shape.specs.Trees.Trees.{none}
 use Rattle.tree_shape.specs.Chosen.{tree_of, truth_of, side_of, chosen}
-use Rattle.tree_shape.specs.Serving.{lay, capped, size_of, slots, Sound, Ready}
+use Rattle.tree_shape.specs.Serving.{lay, capped, size_of}
 use Rattle.tree_shape.proofs.Steps.{roots_tree, chosen_true, chosen_false}
 use Rattle.tree_shape.proofs.Places.{side_places, chosen_places}
 use Rattle.tree_shape.proofs.Laid.{lay_table}
+use Rattle.tree_size.specs.declared.Slot.{Slot}
+use Rattle.tree_size.specs.declared.Kept.TheVariants.{Nothing, Holds, Fails}
+use Rattle.tree_size.specs.Serving.{slots, slots_each, empty, Says, Sound, Ready}
 use Rattle.tree_size.proofs.Memory.{ready_again}
 use Rattle.tree_put.specs.Serving.{Writing}
 use Rattle.tree_answer.specs.Answer.{Answer, refuse, asked_fault, roomy, granted, tree_answer, write_answer}
 use Rattle.tree_answer.specs.Theorem.{Worth, WrittenIsAccepted}
 use Rattle.tree_answer.proofs.Accepted.{asked_input, written_is_accepted}
-use Rattle.tree_write.specs.declared.Numbers.{Numbers}
-use Rattle.tree_write.specs.declared.WriteResult.{WriteResult}
-use Rattle.tree_write.specs.declared.WriteResult.TheVariants.{Granted, Input, Until, Short}
+use Rattle.tree_write.specs.declared.TreeRefusal.TheVariants.{Input, Until, Short}
 use Rattle.tree_write.specs.Result.{found_of, written_of, answer_of}
 
 -- ---- the room
@@ -67,7 +71,7 @@ module _ (N : Net) (F : List ℕ) (f m : ℕ) (room : List ℕ) (n : ℕ) (found
       by (inr l) = ap (λ (k : ℕ). leb k 65536 && leb (k * node_size) (length room)) (let e : n ≡ size (chosen N F f m) = omega arith in e)
 
   -- no room for the tree
-  pub short : not (leb n 65536 && leb (n * node_size) (length room)) ≡ true → answer_of Short room ≡ tree_answer N F f m room
+  pub short : not (leb n 65536 && leb (n * node_size) (length room)) ≡ true → answer_of (Err Short) room ≡ tree_answer N F f m room
   unfolding found_of written_of tree_answer
   short h = sym (if_false (roomy (chosen N F f m) room) _ _ (sym roomy_test ∙ not-true _ h))
 
@@ -88,7 +92,7 @@ module _ (N : Net) (F : List ℕ) (f m : ℕ) (room : List ℕ) (n : ℕ) (found
 
     -- the tree of a side that is true, laid into the room
     laid : (side : ℕ) → side_of N F f m ≡ side → (after : List ℕ) → after ≡ lay (chosen N F f m) 0 0 1 room
-        → answer_of (Granted (record { side = side; nodes = n })) after ≡ tree_answer N F f m room
+        → answer_of (Ok (record { side = side; nodes = n })) after ≡ tree_answer N F f m room
     unfolding found_of written_of tree_answer granted chosen roots
     laid side s after e =
         (λ i.
@@ -100,22 +104,20 @@ module _ (N : Net) (F : List ℕ) (f m : ℕ) (room : List ℕ) (n : ℕ) (found
         })
         ∙ sym (if_true (roomy (chosen N F f m) room) _ _ (sym roomy_test ∙ enough))
 
-    pub laid_holds : truth_of N F f m ≡ true → (r : WriteResult) → r ≡ Granted (record { side = 0; nodes = n }) → (after : List ℕ)
-        → after ≡ lay (tree_of N F 0 f m none) 0 0 1 room → answer_of r after ≡ tree_answer N F f m room
+    pub laid_holds : truth_of N F f m ≡ true → (after : List ℕ)
+        → after ≡ lay (tree_of N F 0 f m none) 0 0 1 room → answer_of (Ok (record { side = 0; nodes = n })) after ≡ tree_answer N F f m room
     unfolding side_of
-    laid_holds t r q after e =
-        ap (λ x. answer_of x after) q
-        ∙ laid 0 (ap (λ b. cond b 0 1) t) after (e ∙ ap (λ T. lay T 0 0 1 room) (sym (chosen_true N F f m t)))
+    laid_holds t after e =
+        laid 0 (ap (λ b. cond b 0 1) t) after (e ∙ ap (λ T. lay T 0 0 1 room) (sym (chosen_true N F f m t)))
 
-    pub laid_fails : truth_of N F f m ≡ false → (r : WriteResult) → r ≡ Granted (record { side = 1; nodes = n }) → (after : List ℕ)
-        → after ≡ lay (tree_of N F 1 f m none) 0 0 1 room → answer_of r after ≡ tree_answer N F f m room
+    pub laid_fails : truth_of N F f m ≡ false → (after : List ℕ)
+        → after ≡ lay (tree_of N F 1 f m none) 0 0 1 room → answer_of (Ok (record { side = 1; nodes = n })) after ≡ tree_answer N F f m room
     unfolding side_of
-    laid_fails t r q after e =
-        ap (λ x. answer_of x after) q
-        ∙ laid 1 (ap (λ b. cond b 0 1) t) after (e ∙ ap (λ T. lay T 0 0 1 room) (sym (chosen_false N F f m t)))
+    laid_fails t after e =
+        laid 1 (ap (λ b. cond b 0 1) t) after (e ∙ ap (λ T. lay T 0 0 1 room) (sym (chosen_false N F f m t)))
 
     -- what the writers of the two sides ask
-    module _ (net memo kept : List ℕ) (isNet : N ≡ net_of 0 net) (r : Ready net F memo f) (long : length kept ≡ length memo) (sound : Sound (net_of 0 net) F kept) where
+    module _ (net : List ℕ) (memo kept : List Slot) (isNet : N ≡ net_of 0 net) (r : Ready net F memo f) (long : length kept ≡ length memo) (sound : Sound (net_of 0 net) F kept) where
       writing : (side : ℕ) → truth_of (net_of 0 net) F f m ≡ eqb side 0 → size (chosen N F f m) ≡ size (tree_of (net_of 0 net) F side f m none)
           → Writing net F kept room side f m 0 0 1
       writing side t e =
@@ -146,35 +148,49 @@ unfolding tree_answer
 places_away p net F f m room =
     ap₂ (λ (s : ℕ) T. cond (roomy T room) (granted s T room) (refuse (fault 12 0) room)) (side_places 0 p net F f m) (chosen_places 0 p net F f m)
 
-zeros_only : (n i : ℕ) → ◌≡◌ {A = ℕ} (get_or (replicate n 0) i 0) 0
-zeros_only zero i = refl
-zeros_only (suc n) zero = refl
-zeros_only (suc n) (suc i) = zeros_only n i
-
 -- an empty memory is sound
-empty_sound : (N : Net) (F : List ℕ) (n : ℕ) → Sound N F (replicate n 0)
+empty_slot : (n i : ℕ) → ◌≡◌ {A = Slot} (get_or (replicate n empty) i empty) empty
+empty_slot zero i = refl
+empty_slot (suc n) zero = refl
+empty_slot (suc n) (suc i) = empty_slot n i
+
+nothing_kept : (b : Bool) (s : ℕ) → Nothing ≡ cond b (Holds s) (Fails s) → ⊥
+nothing_kept true s e = cc
+nothing_kept false s e = cc
+
+empty_says : (N : Net) (F : List ℕ) (f : ℕ) → Says N F f empty
+unfolding Says
+empty_says N F f x e = absurd (nothing_kept x.holds x.size e)
+
+empty_sound : (N : Net) (F : List ℕ) (n : ℕ) → Sound N F (replicate n empty)
 unfolding Sound
-empty_sound N F n i h d = absurd (d (zeros_only n (slots + i)))
+empty_sound N F n i h = subst (λ (y : Slot). Says N F (i / slots_each) y) (sym (empty_slot n i)) (empty_says N F (i / slots_each))
 
-module _ (ask net F tree : List ℕ) (sized : tree_sized tree ≡ true) (r : InputFault) (e : input r ≡ input_fault ask net F tree) where
-  asked : input r ≡ asked_fault ask net F
-  asked = e ∙ asked_input ask net F tree sized
+-- what the input checks find has a number
+fault_number : (f : InputFault) → eqb (fault_of f).number 0 ≡ false
+unfolding fault_of
+fault_number BadAsk = refl
+fault_number (BadNet r) = refusal_number r
+fault_number (Formulas f) = told_number f
+fault_number Tree = refl
+fault_number Last = refl
 
+module _ (ask net F tree : List ℕ) (sized : tree_sized tree ≡ true) where
   -- refused as the check refuses
-  pub refused_input : (r.number ≡ 0 → ⊥) → (room : List ℕ) → answer_of (Input r.number r.place) room ≡ write_answer ask net F room
-  unfolding found_of written_of write_answer input
-  refused_input d room =
-      ap (λ f. refuse f room) asked
-      ∙ sym (if_false (eqb (asked_fault ask net F).number 0) _ _ (ne_eqb _ 0 (λ z. d (ap (λ f. f.number) asked ∙ z))))
+  pub refused_input : (f : InputFault) → fault_of f ≡ input_fault ask net F tree → (room : List ℕ)
+      → answer_of (Err (Input f)) room ≡ write_answer ask net F room
+  unfolding found_of written_of write_answer
+  refused_input f e room =
+      let g : fault_of f ≡ asked_fault ask net F = e ∙ asked_input ask net F tree sized in
+      ap (λ x. refuse x room) g
+      ∙ sym (if_false (eqb (asked_fault ask net F).number 0) _ _ (ap (λ x. eqb x.number 0) (sym g) ∙ fault_number f))
 
-  module _ (z : r.number ≡ 0) where
+  module _ (e : no_fault ≡ input_fault ask net F tree) where
     zero_number : (asked_fault ask net F).number ≡ 0
-    unfolding input
-    zero_number = sym (ap (λ f. f.number) asked) ∙ z
+    zero_number = ap (λ f. f.number) (sym (e ∙ asked_input ask net F tree sized))
 
     pub admitted : Admitted ask net F tree
-    unfolding input
-    admitted = input_passed ask net F tree (sym (ap (λ f. f.number) e) ∙ z)
+    admitted = input_passed ask net F tree (ap (λ f. f.number) (sym e))
 
     pub ask_whole : ask_size_lem ≤ length ask
     ask_whole = ask-bytes ask admitted.ask-good
@@ -187,7 +203,7 @@ module _ (ask net F tree : List ℕ) (sized : tree_sized tree ≡ true) (r : Inp
           (ltb-true _ _ (and_right (within (ask_of ask).places (ask_of ask).marking) (ltb (ask_of ask).formula (formulas F)) admitted.ask-inside))
 
       -- a formula with until
-      pub refused-until : until_free (formula F a.formula) ≡ false → (room : List ℕ) → answer_of Until room ≡ write_answer ask net F room
+      pub refused-until : until_free (formula F a.formula) ≡ false → (room : List ℕ) → answer_of (Err Until) room ≡ write_answer ask net F room
       unfolding found_of written_of write_answer
       refused-until u room =
           sym (if_true _ _ _ (eq-eqb _ 0 zero_number) ∙ if_false _ _ _ (ap (λ (x : Ask). until_free (formula F x.formula)) (sym isAsk) ∙ u))
@@ -202,7 +218,7 @@ module _ (ask net F tree : List ℕ) (sized : tree_sized tree ≡ true) (r : Inp
           ∙ places_away (ask_of ask).places net F (ask_of ask).formula (ask_of ask).marking room
           ∙ sym (if_true _ _ _ (eq-eqb _ 0 zero_number) ∙ if_true _ _ _ (ap (λ (y : Ask). until_free (formula F y.formula)) (sym isAsk) ∙ u))
 
-      pub ready : until_free (formula F a.formula) ≡ true → (n : ℕ) → n ≡ slots + slots → Ready net F (replicate n 0) a.formula
+      pub ready : until_free (formula F a.formula) ≡ true → (n : ℕ) → n ≡ slots → Ready net F (replicate n empty) a.formula
       ready u n q =
           record {
             sized = admitted.net_sized;
@@ -210,7 +226,7 @@ module _ (ask net F tree : List ℕ) (sized : tree_sized tree ≡ true) (r : Inp
             lower = admitted.formulas_lower;
             inside = formula_inside;
             until-free = u;
-            room = length-replicate n 0 ∙ q;
+            room = length-replicate n empty ∙ q;
             sound = empty_sound (net_of 0 net) F n;
           }
 
@@ -224,22 +240,3 @@ blank_sized = refl
 pub worth : (ask net F room : List ℕ) (a : Answer) → a ≡ write_answer ask net F room → (a ≡ write_answer ask net F room) × Worth ask net F a
 unfolding WrittenIsAccepted
 worth ask net F room a e = (e, subst (Worth ask net F) (sym e) (written_is_accepted ask net F room))
-
--- ---- the answer in numbers
-
-pub numbers-of : (r : WriteResult) {r' : WriteResult} (n p s k : ℕ) → r ≡ r'
-    → (n ≡ (found_of r').number) × (p ≡ (found_of r').place) × (s ≡ (written_of r').side) × (k ≡ (written_of r').nodes)
-    → (n ≡ (found_of r).number) × (p ≡ (found_of r).place) × (s ≡ (written_of r).side) × (k ≡ (written_of r).nodes)
-numbers-of r n p s k e h =
-    subst (λ x. (n ≡ (found_of x).number) × (p ≡ (found_of x).place) × (s ≡ (written_of x).side) × (k ≡ (written_of x).nodes)) (sym e) h
-
--- the numbers of a refusal
-pub refused_numbers : (r : WriteResult) {r' : WriteResult} (n : Numbers) {n' : Numbers} → r ≡ r' → n ≡ n'
-    → (n'.number ≡ (found_of r').number) × (n'.place ≡ (found_of r').place) × (n'.side ≡ (written_of r').side) × (n'.nodes ≡ (written_of r').nodes)
-    → (n.number ≡ (found_of r).number) × (n.place ≡ (found_of r).place) × (n.side ≡ (written_of r).side) × (n.nodes ≡ (written_of r).nodes)
-refused_numbers r {r'} n e q h =
-    numbers-of r n.number n.place n.side n.nodes e
-    (subst
-    (λ (x : Numbers).
-    (x.number ≡ (found_of r').number) × (x.place ≡ (found_of r').place) × (x.side ≡ (written_of r').side) × (x.nodes ≡ (written_of r').nodes))
-    (sym q) h)

@@ -1,11 +1,11 @@
 // The four files, named by arguments or not.
+ghost use Rattle.std.specs.Prelude.{◌≡◌, MatchResult, Some};
 ghost use Rattle.files.specs.Reading.{FileRead};
 
-use files::Got;
 use line::Input;
 
 // Reads the file that an argument names, or the one of a fixed name in the working folder.
-fn read_one(rt: HostRuntime, named: bool, i: usize, name: &[u8], buf: &mut [u8]) -> Got
+fn read_one(rt: HostRuntime, named: bool, i: usize, name: &[u8], buf: &mut [u8]) -> Option<usize>
     ensures { FileRead buf.new result }
 {
     if named {
@@ -14,14 +14,15 @@ fn read_one(rt: HostRuntime, named: bool, i: usize, name: &[u8], buf: &mut [u8])
     files::read_path(&rt, name, buf)
 }
 
-// Reads one of the four files.
-pub fn read_input(rt: HostRuntime, file: Input, named: bool, buf: &mut [u8]) -> Got
-    ensures { FileRead buf.new result }
+// Reads one of the four files: so many bytes at the start of the buffer, or the file where it is not read.
+pub fn read_input(rt: HostRuntime, file: Input, named: bool, buf: &mut [u8]) -> Result<usize, Input>
+    ensures { MatchResult result (λ n. FileRead buf.new (Some n)) (λ unread. unread ≡ file) }
 {
-    match file {
+    let size = match file {
         Input::Ask => read_one(rt, named, 1, b"ASK", buf),
         Input::Net => read_one(rt, named, 2, b"NET", buf),
         Input::Formula => read_one(rt, named, 3, b"FORMULA", buf),
         Input::Tree => read_one(rt, named, 4, b"TREE", buf),
-    }
+    };
+    size.ok_or(file)
 }

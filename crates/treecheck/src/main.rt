@@ -3,9 +3,11 @@
 // nothing but its usage, to standard error.
 #![tactic(auto)]
 
+ghost use Rattle.std.specs.Prelude.{IfOk};
+ghost use Rattle.files.specs.Reading.{IsPrefixLen};
+
 mod inputs;
 
-use files::Got;
 use line::Input;
 use std::io;
 
@@ -16,38 +18,28 @@ fn tell_unread(rt: HostRuntime, file: Input) -> io::Result<()> {
     rt.write_all(&text[..size])
 }
 
-// Tells what the check says of the four tables.
-fn tell_check(
-    rt: HostRuntime,
-    ask: &[u8],
-    net: &[u8],
-    formulas: &[u8],
-    tree: &[u8],
-) -> io::Result<()> {
-    let mut text = [0u8; 40];
-    let size = line::check_line(ask, net, formulas, tree, &mut text);
-    rt.write_all(&text[..size])
+// Reads all four files and puts what the check says of them at the start of the line: its length, or the first file that is not read.
+fn check(rt: HostRuntime, named: bool, text: &mut [u8; 40]) -> Result<usize, Input>
+    ensures { IfOk result (λ n. IsPrefixLen n text.new) }
+{
+    let mut ask: [u8; files::ROOM] = files::zeros();
+    let a = inputs::read_input(rt, Input::Ask, named, &mut ask)?;
+    let mut net: [u8; files::ROOM] = files::zeros();
+    let n = inputs::read_input(rt, Input::Net, named, &mut net)?;
+    let mut formulas: [u8; files::ROOM] = files::zeros();
+    let f = inputs::read_input(rt, Input::Formula, named, &mut formulas)?;
+    let mut tree: [u8; files::ROOM] = files::zeros();
+    let t = inputs::read_input(rt, Input::Tree, named, &mut tree)?;
+    Ok(line::check_line(&ask[..a], &net[..n], &formulas[..f], &tree[..t], text))
 }
 
-// Reads all four files, and then checks.
+// Tells what the check says, or which file is not read.
 fn run(rt: HostRuntime, named: bool) -> io::Result<()> {
-    let mut ask = files::room();
-    let Got::Whole(a) = inputs::read_input(rt, Input::Ask, named, &mut ask) else {
-        return tell_unread(rt, Input::Ask);
-    };
-    let mut net = files::room();
-    let Got::Whole(n) = inputs::read_input(rt, Input::Net, named, &mut net) else {
-        return tell_unread(rt, Input::Net);
-    };
-    let mut formulas = files::room();
-    let Got::Whole(f) = inputs::read_input(rt, Input::Formula, named, &mut formulas) else {
-        return tell_unread(rt, Input::Formula);
-    };
-    let mut tree = files::room();
-    let Got::Whole(t) = inputs::read_input(rt, Input::Tree, named, &mut tree) else {
-        return tell_unread(rt, Input::Tree);
-    };
-    tell_check(rt, &ask[..a], &net[..n], &formulas[..f], &tree[..t])
+    let mut text = [0u8; 40];
+    match check(rt, named, &mut text) {
+        Ok(size) => rt.write_all(&text[..size]),
+        Err(file) => tell_unread(rt, file),
+    }
 }
 
 // Whether there are arguments 0, the program's own name, to last, and no more.

@@ -4,7 +4,7 @@ use mathlib.Core.Bool.{Bool, true, false, cond, ◌&&◌, false≢true}
 use mathlib.Core.List.{List, [], ◌∷◌}
 use Prim.Native.Nat.{ℕ, ◌+◌, ◌/◌, ◌%◌, ◌≤◌, ◌<◌, zero-le}
 use native.Mathlib.Omega.{arith}
-use lib.ListN.{get_or, length}
+use lib.ListN.{length}
 use lib.Dec.{eqb, ltb, leb}
 use borrow.Author.Tests.{lt-ltb, ltb-true, le-leb, not-false}
 use Rattle.bitset.specs.Sets.{within}
@@ -16,7 +16,7 @@ use Rattle.net.specs.Answer.{Fault, no_fault, fault, refuse, grant, load_fault, 
 use Rattle.net.proofs.Answers.{load_passed, load_cases, decoded_pre, decoded_post}
 use Rattle.net.proofs.Independence.{moved_within}
 use Rattle.walk.specs.declared.Walk.{Walk}
-use Rattle.walk.specs.State.{net_in, started_at, moved_to, empty, sets_within, transitions_good, net_good, loaded}
+use Rattle.walk.specs.State.{started_at, moved_to, empty, sets_within, transitions_good, net_good, loaded}
 use Rattle.walk.specs.Calls.{granted, load_answer, load_walk, fire_answer, fire_walk, loaded_answer, reset_walk}
 use Rattle.walk.specs.History.{Call, called, run}
 use Rattle.walk.specs.History.Call.{load, fire, reset}
@@ -37,12 +37,12 @@ load_none places m bytes =
     (λ k e. absurd (false≢true e)) (λ e. absurd (false≢true e))
 
 -- a firing is granted where the walk is loaded, the transition is one of the net's and enabled, and the count is below 65,535
-pub grants_where : (w : Walk) (t : ℕ) → granted (fire_answer w t) ≡ (loaded w && (enabled (net_in w) w.present t && ltb w.count 65535))
-unfolding fire_answer granted enabled disabled net_in
-grants_where w t = by (loaded w) (ltb t w.transitions) _ (ltb w.count 65535)
+pub grants_where : (w : Walk) (t : ℕ) → granted (fire_answer w t) ≡ (loaded w && (enabled w.net w.present t && ltb w.count 65535))
+unfolding fire_answer granted enabled disabled
+grants_where w t = by (loaded w) (ltb t w.net.transitions) _ (ltb w.count 65535)
   where
     by : (l n e f : Bool)
-        → granted (cond l (cond n (cond (n && e) (cond f (grant 0) (refuse (fault 42 0))) (disabled (net_in w) w.present t)) (refuse (fault 8 0))) (refuse (fault 40 0)))
+        → granted (cond l (cond n (cond (n && e) (cond f (grant 0) (refuse (fault 42 0))) (disabled w.net w.present t)) (refuse (fault 8 0))) (refuse (fault 40 0)))
         ≡ (l && ((n && e) && f))
     by true true true true = refl
     by true true true false = refl
@@ -51,22 +51,22 @@ grants_where w t = by (loaded w) (ltb t w.transitions) _ (ltb w.count 65535)
     by false n e f = refl
 
 pub fire_needs : (w : Walk) (t : ℕ) → granted (fire_answer w t) ≡ true
-    → (loaded w ≡ true) × (t < w.transitions) × (enabled (net_in w) w.present t ≡ true) × (w.count < 65535)
-unfolding enabled net_in
+    → (loaded w ≡ true) × (t < w.net.transitions) × (enabled w.net w.present t ≡ true) × (w.count < 65535)
+unfolding enabled
 fire_needs w t h =
-    let can = enabled (net_in w) w.present t in
+    let can = enabled w.net w.present t in
     let room = ltb w.count 65535 in
     let all = sym (grants_where w t) ∙ h in
     let p = and_left can room (and_right (loaded w) (can && room) all) in (
       and_left (loaded w) (can && room) all,
-      ltb-true t w.transitions (and_left (ltb t w.transitions) _ p),
+      ltb-true t w.net.transitions (and_left (ltb t w.net.transitions) _ p),
       p,
       ltb-true w.count 65535 (and_right can room (and_right (loaded w) (can && room) all)),
     )
 
-pub fire_grants : (w : Walk) (t : ℕ) → loaded w ≡ true → enabled (net_in w) w.present t ≡ true → w.count < 65535 → granted (fire_answer w t) ≡ true
+pub fire_grants : (w : Walk) (t : ℕ) → loaded w ≡ true → enabled w.net w.present t ≡ true → w.count < 65535 → granted (fire_answer w t) ≡ true
 fire_grants w t h p l =
-    let can = enabled (net_in w) w.present t in
+    let can = enabled w.net w.present t in
     let room = ltb w.count 65535 in
     grants_where w t ∙ and_intro (loaded w) (can && room) h (and_intro can room p (lt-ltb w.count 65535 l))
 
@@ -90,8 +90,8 @@ module _ (places m : ℕ) (bytes : List ℕ) (e : no_fault ≡ load_fault places
       let sets = and_left (within places (pre_at bytes t) && within places (post_at bytes t)) (leb (mark_at bytes t) 1) marked in
       (and_left (within places (pre_at bytes t)) (within places (post_at bytes t)) sets, and_right (within places (pre_at bytes t)) (within places (post_at bytes t)) sets)
 
-  entry_within : (t : ℕ) → t < transitions bytes → sets_within places (net_of places bytes).pre (net_of places bytes).post t ≡ true
-  unfolding sets_within
+  entry_within : (t : ℕ) → t < transitions bytes → sets_within (net_of places bytes) t ≡ true
+  unfolding sets_within net_of
   entry_within t l =
       let whole = (load_passed places m bytes e).1 in
       let good = record_within t l in
@@ -106,7 +106,7 @@ module _ (places m : ℕ) (bytes : List ℕ) (e : no_fault ≡ load_fault places
       record {
         places = p.0;
         transitions = count_good;
-        sets = every_is (sets_within places (net_of places bytes).pre (net_of places bytes).post) (transitions bytes) entry_within;
+        sets = every_is (sets_within (net_of places bytes)) (transitions bytes) entry_within;
         start = p.3;
         present = p.3;
         count = refl;
@@ -120,18 +120,18 @@ load_loaded w places m bytes h =
 
 -- ---- fire and reset
 
-moved_sound : (w : Walk) (m n : ℕ) → Sound w → within w.places m ≡ true → n ≤ 65535 → Sound (moved_to w m n)
+moved_sound : (w : Walk) (m n : ℕ) → Sound w → within w.net.places m ≡ true → n ≤ 65535 → Sound (moved_to w m n)
 unfolding moved_to
 moved_sound w m n s p q =
     record { places = s.places; transitions = s.transitions; sets = s.sets; start = s.start; present = p; count = le-leb n 65535 q }
 
 -- the marking after a transition of a loaded walk
-fired_within : (w : Walk) (t : ℕ) → Sound w → t < w.transitions → within w.places (fired (net_in w) w.present t) ≡ true
-unfolding fired net_in sets_within
+fired_within : (w : Walk) (t : ℕ) → Sound w → t < w.net.transitions → within w.net.places (fired w.net w.present t) ≡ true
+unfolding fired sets_within
 fired_within w t s l =
-    moved_within w.places (get_or w.pre t 0) (get_or w.post t 0) w.present
-    (and_right (within w.places (get_or w.pre t 0)) (within w.places (get_or w.post t 0))
-    (every_at (sets_within w.places w.pre w.post) w.transitions t s.sets l))
+    moved_within w.net.places (pre_of w.net t) (post_of w.net t) w.present
+    (and_right (within w.net.places (pre_of w.net t)) (within w.net.places (post_of w.net t))
+    (every_at (sets_within w.net) w.net.transitions t s.sets l))
     s.present
 
 pub fire_loaded : (w : Walk) (t : ℕ) → granted (fire_answer w t) ≡ true → loaded (fire_walk w t) ≡ true
@@ -141,8 +141,8 @@ fire_loaded w t h =
     let s = loaded_sound w r.0 in
     let most : w.count + 1 ≤ 65535 = omega (arith, r.3) in
     ap loaded (if_true _ _ w h)
-    ∙ sound_loaded (moved_to w (fired (net_in w) w.present t) (w.count + 1))
-    (moved_sound w (fired (net_in w) w.present t) (w.count + 1) s (fired_within w t s r.1) most)
+    ∙ sound_loaded (moved_to w (fired w.net w.present t) (w.count + 1))
+    (moved_sound w (fired w.net w.present t) (w.count + 1) s (fired_within w t s r.1) most)
 
 reset_needs : (w : Walk) → granted (loaded_answer w) ≡ true → loaded w ≡ true
 unfolding loaded_answer granted
@@ -171,7 +171,7 @@ unfolding called load_walk fire_walk reset_walk
 called_loaded w (load places m bytes) h =
     kept w (started_at (net_of places bytes) m) h (granted (load_answer places m bytes)) (load_loaded w places m bytes)
 called_loaded w (fire t) h =
-    kept w (moved_to w (fired (net_in w) w.present t) (w.count + 1)) h (granted (fire_answer w t)) (fire_loaded w t)
+    kept w (moved_to w (fired w.net w.present t) (w.count + 1)) h (granted (fire_answer w t)) (fire_loaded w t)
 called_loaded w reset h = kept w (moved_to w w.start 0) h (granted (loaded_answer w)) (reset_loaded w)
 
 pub run_loaded : (w : Walk) (cs : List Call) → loaded w ≡ true → loaded (run w cs) ≡ true

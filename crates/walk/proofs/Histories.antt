@@ -24,7 +24,7 @@ use Rattle.net.proofs.Loops.{next_member, enabled_out}
 use Rattle.net.proofs.Runs.{after_first, after_more}
 use Rattle.net.proofs.Why.{other_explained, disabled_explained}
 use Rattle.walk.specs.declared.Walk.{Walk}
-use Rattle.walk.specs.State.{net_in, started_at, moved_to, empty, storing, marked, StoresNext, loaded}
+use Rattle.walk.specs.State.{started_at, moved_to, empty, storing, marked, StoresNext, sets_within, net_good, state_good, loaded}
 use Rattle.walk.specs.Calls.{granted, load_answer, load_walk, fire_answer, fire_walk, loaded_answer, reset_walk, read_marking, read_count, read_next}
 use Rattle.walk.specs.History.{Call, answered, called, run, Log, no_calls, logged, since, Follows, OffersSteps, FireExplained, LeavesNext, AnyStored, AnyMarks, fire_all, all_granted}
 use Rattle.walk.specs.History.Call.{load, fire, reset}
@@ -35,7 +35,7 @@ use Rattle.walk.proofs.Conditions.{new_unloaded, grants_where, fire_needs, fire_
 
 module _ (w : Walk) (p : Log) (f : Follows w p) where
   follows_load : (places m : ℕ) (bytes : List ℕ) → Follows (load_walk w places m bytes) (logged w p (load places m bytes))
-  unfolding load_walk logged net_in started_at after
+  unfolding load_walk logged started_at after
   follows_load places m bytes = by (granted (load_answer places m bytes))
     where
       by : (b : Bool) → Follows (cond b (started_at (net_of places bytes) m) w) (cond b (record { net = net_of places bytes; start = m; firings = [] }) p)
@@ -43,7 +43,7 @@ module _ (w : Walk) (p : Log) (f : Follows w p) where
       by false = f
 
   follows_reset : Follows (reset_walk w) (logged w p reset)
-  unfolding reset_walk logged net_in moved_to after
+  unfolding reset_walk logged moved_to after
   follows_reset = by (granted (loaded_answer w))
     where
       by : (b : Bool) → Follows (cond b (moved_to w w.start 0) w) (cond b (record { net = p.net; start = p.start; firings = [] }) p)
@@ -51,11 +51,11 @@ module _ (w : Walk) (p : Log) (f : Follows w p) where
       by false = f
 
   follows_fire : (t : ℕ) → Follows (fire_walk w t) (logged w p (fire t))
-  unfolding fire_walk logged net_in moved_to
+  unfolding fire_walk logged moved_to
   follows_fire t = by (granted (fire_answer w t)) refl
     where
       moves : granted (fire_answer w t) ≡ true
-          → after p.net p.start (p.firings ++ (t ∷ [])) ≡ some (fired (net_in w) w.present t)
+          → after p.net p.start (p.firings ++ (t ∷ [])) ≡ some (fired w.net w.present t)
       moves h =
           after_more p.net p.start w.present t p.firings f.present
           (ap (λ N. enabled N w.present t) (sym f.net) ∙ (fire_needs w t h).2)
@@ -65,7 +65,7 @@ module _ (w : Walk) (p : Log) (f : Follows w p) where
       counts = ap (λ (n : ℕ). n + 1) f.count ∙ sym (length-append p.firings (t ∷ []))
 
       by : (b : Bool) → granted (fire_answer w t) ≡ b
-          → Follows (cond b (moved_to w (fired (net_in w) w.present t) (w.count + 1)) w)
+          → Follows (cond b (moved_to w (fired w.net w.present t) (w.count + 1)) w)
           (cond b (record { net = p.net; start = p.start; firings = p.firings ++ (t ∷ []) }) p)
       by true h = record { net = f.net; start = f.start; count = counts; present = moves h; next = refl }
       by false h = f
@@ -88,7 +88,7 @@ pub follows_new : (cs : List Call) → Follows (run empty cs) (since empty no_ca
 follows_new = follows empty no_calls start
   where
     start : Follows empty no_calls
-    start = unfold empty no_calls net_in after next collect in record { net = refl; start = refl; count = refl; present = refl; next = refl }
+    start = unfold empty no_calls after next collect in record { net = refl; start = refl; count = refl; present = refl; next = refl }
 
 -- ---- the steps to offer
 
@@ -117,11 +117,11 @@ made (c ∷ cs) = by (called empty c) (new_called c) (made cs)
     by w (inr e) rest = subst (λ v. Made (run v cs)) (sym e) rest
 
 offers : (w : Walk) (t : ℕ) → StoresNext w → Made w → granted (fire_answer w t) ≡ (member w.next t && ltb w.count 65535)
-unfolding Made empty net_in
-offers w t q p = grants_where w t ∙ by p ∙ sym (ap (λ b. b && room) (ap (λ (s : ℕ). member s t) q ∙ next_member (net_in w) w.present t))
+unfolding Made empty
+offers w t q p = grants_where w t ∙ by p ∙ sym (ap (λ b. b && room) (ap (λ (s : ℕ). member s t) q ∙ next_member w.net w.present t))
   where
     can : Bool
-    can = enabled (net_in w) w.present t
+    can = enabled w.net w.present t
 
     room : Bool
     room = ltb w.count 65535
@@ -130,7 +130,7 @@ offers w t q p = grants_where w t ∙ by p ∙ sym (ap (λ b. b && room) (ap (λ
     by (inl h) = ap (λ b. b && (can && room)) h
     by (inr e) =
         ap (λ b. b && (can && room)) (ap loaded e ∙ new_unloaded)
-        ∙ sym (ap (λ b. b && room) (ap (λ v. enabled (net_in v) v.present t) e ∙ enabled_out (net_in empty) 0 t zero-le))
+        ∙ sym (ap (λ b. b && room) (ap (λ v. enabled v.net v.present t) e ∙ enabled_out empty.net 0 t zero-le))
 
 pub offers_steps : OffersSteps
 unfolding OffersSteps
@@ -139,50 +139,50 @@ offers_steps cs t = offers (run empty cs) t (follows_new cs).next (made cs)
 -- ---- why a step is refused
 
 pub fire_explained : FireExplained
-unfolding FireExplained fire_answer net_in
-fire_explained w t = by (loaded w) (ltb t w.transitions) (enabled (net_in w) w.present t) (ltb w.count 65535) refl refl
+unfolding FireExplained fire_answer
+fire_explained w t = by (loaded w) (ltb t w.net.transitions) (enabled w.net w.present t) (ltb w.count 65535) refl refl
   where
-    plain : (a : Answer) → (a.found.number ≡ 41 → ⊥) → a.missing ≡ 0 → a.occupied ≡ 0 → Explained (net_in w) w.present t a
-    plain = other_explained (net_in w) w.present t
+    plain : (a : Answer) → (a.found.number ≡ 41 → ⊥) → a.missing ≡ 0 → a.occupied ≡ 0 → Explained w.net w.present t a
+    plain = other_explained w.net w.present t
 
-    by : (l n e f : Bool) → ltb t w.transitions ≡ n → enabled (net_in w) w.present t ≡ e
-        → Explained (net_in w) w.present t
-        (cond l (cond n (cond e (cond f (grant 0) (refuse (fault 42 0))) (disabled (net_in w) w.present t)) (refuse (fault 8 0))) (refuse (fault 40 0)))
+    by : (l n e f : Bool) → ltb t w.net.transitions ≡ n → enabled w.net w.present t ≡ e
+        → Explained w.net w.present t
+        (cond l (cond n (cond e (cond f (grant 0) (refuse (fault 42 0))) (disabled w.net w.present t)) (refuse (fault 8 0))) (refuse (fault 40 0)))
     by true true true true p q = plain (grant 0) (λ d. omega (arith, d)) refl refl
     by true true true false p q = plain (refuse (fault 42 0)) (λ d. omega (arith, d)) refl refl
-    by true true false f p q = disabled_explained (net_in w) w.present t (ltb-true t w.transitions p) q
+    by true true false f p q = disabled_explained w.net w.present t (ltb-true t w.net.transitions p) q
     by true false e f p q = plain (refuse (fault 8 0)) (λ d. omega (arith, d)) refl refl
     by false n e f p q = plain (refuse (fault 40 0)) (λ d. omega (arith, d)) refl refl
 
 -- ---- the stored set
 
 pub leaves_next : LeavesNext
-unfolding LeavesNext answered called load_walk fire_walk reset_walk started_at moved_to net_in
+unfolding LeavesNext answered called load_walk fire_walk reset_walk started_at moved_to
 leaves_next w (load places m bytes) h = subst StoresNext (sym (if_true _ _ w h)) refl
 leaves_next w (fire t) h = subst StoresNext (sym (if_true _ _ w h)) refl
 leaves_next w reset h = subst StoresNext (sym (if_true _ _ w h)) refl
 
 module _ (w : Walk) (n : ℕ) where
   same_answer : (c : Call) → answered (storing w n) c ≡ answered w c
-  unfolding answered fire_answer loaded_answer loaded net_in storing
+  unfolding answered fire_answer loaded_answer loaded state_good storing
   same_answer (load places m bytes) = refl
   same_answer (fire t) = refl
   same_answer reset = refl
 
   same-after : (c : Call) → granted (answered w c) ≡ true → called (storing w n) c ≡ called w c
-  unfolding answered called load_walk fire_walk reset_walk fire_answer loaded_answer loaded net_in moved_to storing
+  unfolding answered called load_walk fire_walk reset_walk fire_answer loaded_answer loaded state_good moved_to storing
   same-after (load places m bytes) h = if_true _ _ (storing w n) h ∙ sym (if_true _ _ w h)
   same-after (fire t) h = if_true _ _ (storing w n) h ∙ sym (if_true _ _ w h)
   same-after reset h = if_true _ _ (storing w n) h ∙ sym (if_true _ _ w h)
 
   as_it_came : (c : Call) → granted (answered w c) ≡ false → called (storing w n) c ≡ storing w n
-  unfolding answered called load_walk fire_walk reset_walk fire_answer loaded_answer loaded net_in storing
+  unfolding answered called load_walk fire_walk reset_walk fire_answer loaded_answer loaded state_good storing
   as_it_came (load places m bytes) h = if_false _ _ (storing w n) h
   as_it_came (fire t) h = if_false _ _ (storing w n) h
   as_it_came reset h = if_false _ _ (storing w n) h
 
   pub any_stored : AnyStored w n
-  unfolding read_marking read_count loaded_answer loaded storing
+  unfolding read_marking read_count loaded_answer loaded state_good storing
   any_stored =
       record {
         condition = refl;
@@ -198,26 +198,26 @@ module _ (w : Walk) (n : ℕ) where
 
 module _ (w : Walk) (n : ℕ) where
   unmoved : (c : Call) → answered (marked w n) c ≡ answered w c
-  unfolding answered fire_answer loaded_answer loaded net_in enabled disabled missing occupied marked
+  unfolding answered fire_answer loaded_answer loaded net_good state_good sets_within enabled disabled missing occupied marked
   unmoved (load places m bytes) = refl
   unmoved (fire t) = refl
   unmoved reset = refl
 
   -- a call that moves the walk, or leaves it, does so with other marks too
   either_way : (b : Bool) (m k : ℕ) → cond b (moved_to (marked w n) m k) (marked w n) ≡ marked (cond b (moved_to w m k) w) n
-  unfolding moved_to net_in next enabled marked
+  unfolding moved_to next enabled marked
   either_way true m k = refl
   either_way false m k = refl
 
   pub any_marks : AnyMarks w n
-  unfolding load_walk fire_walk reset_walk read_marking read_count read_next fire_answer loaded_answer loaded net_in enabled disabled missing occupied fired marked
+  unfolding load_walk fire_walk reset_walk read_marking read_count read_next fire_answer loaded_answer loaded net_good state_good sets_within enabled disabled missing occupied fired marked
   any_marks =
       record {
         condition = refl;
         answer = unmoved;
         loads = λ places m bytes h. if_true _ _ (marked w n) h ∙ sym (if_true _ _ w h);
         stays = λ places m bytes h. if_false _ _ (marked w n) h;
-        fires = λ t. either_way (granted (fire_answer w t)) (fired (net_in w) w.present t) (w.count + 1);
+        fires = λ t. either_way (granted (fire_answer w t)) (fired w.net w.present t) (w.count + 1);
         resets = either_way (granted (loaded_answer w)) w.start 0;
         marking = refl;
         count = refl;
@@ -227,7 +227,7 @@ module _ (w : Walk) (n : ℕ) where
 -- ---- firings one after the other
 
 -- what a granted firing leaves
-pub granted_walk : (w : Walk) (t : ℕ) → granted (fire_answer w t) ≡ true → fire_walk w t ≡ moved_to w (fired (net_in w) w.present t) (w.count + 1)
+pub granted_walk : (w : Walk) (t : ℕ) → granted (fire_answer w t) ≡ true → fire_walk w t ≡ moved_to w (fired w.net w.present t) (w.count + 1)
 unfolding fire_walk
 granted_walk w t h = if_true _ _ w h
 
@@ -236,13 +236,13 @@ unfolding moved_to
 granted_count w t h = ap (λ v. v.count) (granted_walk w t h)
 
 granted_after : (w : Walk) (t : ℕ) (ts : List ℕ) → granted (fire_answer w t) ≡ true
-    → after (net_in (fire_walk w t)) (fire_walk w t).present ts ≡ after (net_in w) (fired (net_in w) w.present t) ts
-unfolding moved_to net_in
-granted_after w t ts h = ap (λ v. after (net_in v) v.present ts) (granted_walk w t h)
+    → after (fire_walk w t).net (fire_walk w t).present ts ≡ after w.net (fired w.net w.present t) ts
+unfolding moved_to
+granted_after w t ts h = ap (λ v. after v.net v.present ts) (granted_walk w t h)
 
 -- firings that are all granted are counted, and lead to the present marking
 pub fired_all : (w : Walk) (ts : List ℕ) → all_granted w ts ≡ true
-    → ((fire_all w ts).count ≡ w.count + length ts) × (after (net_in w) w.present ts ≡ some (fire_all w ts).present)
+    → ((fire_all w ts).count ≡ w.count + length ts) × (after w.net w.present ts ≡ some (fire_all w ts).present)
 unfolding fire_all all_granted after
 fired_all w [] h = (sym (add-zero w.count), refl)
 fired_all w (t ∷ ts) h =
@@ -255,18 +255,18 @@ fired_all w (t ∷ ts) h =
     )
 
 -- the first of a firing sequence of the walk's net, where the count has room for it, is granted, and the others are one of the walk after it
-pub first_granted : (w : Walk) (e t : ℕ) (ts : List ℕ) → loaded w ≡ true → after (net_in w) w.present (t ∷ ts) ≡ some e → w.count < 65535
+pub first_granted : (w : Walk) (e t : ℕ) (ts : List ℕ) → loaded w ≡ true → after w.net w.present (t ∷ ts) ≡ some e → w.count < 65535
     → (granted (fire_answer w t) ≡ true)
     × (loaded (fire_walk w t) ≡ true)
-    × (after (net_in (fire_walk w t)) (fire_walk w t).present ts ≡ some e)
+    × (after (fire_walk w t).net (fire_walk w t).present ts ≡ some e)
     × ((fire_walk w t).count ≡ w.count + 1)
 first_granted w e t ts h q l =
-    let p = after_first (net_in w) w.present e t ts q in
+    let p = after_first w.net w.present e t ts q in
     let g = fire_grants w t h p.0 l in
     (g, fire_loaded w t g, granted_after w t ts g ∙ p.1, granted_count w t g)
 
 -- one for which the count has room is granted whole
-pub all-granted : (w : Walk) (e : ℕ) (ts : List ℕ) → loaded w ≡ true → after (net_in w) w.present ts ≡ some e → w.count + length ts ≤ 65535
+pub all-granted : (w : Walk) (e : ℕ) (ts : List ℕ) → loaded w ≡ true → after w.net w.present ts ≡ some e → w.count + length ts ≤ 65535
     → all_granted w ts ≡ true
 unfolding all_granted
 all-granted w e [] h q l = refl
@@ -283,8 +283,8 @@ pub loaded_then_fired : (w : Walk) (places m : ℕ) (bytes : List ℕ) (ts : Lis
     → all_granted (load_walk w places m bytes) ts ≡ true
     → ((fire_all (load_walk w places m bytes) ts).count ≡ length ts)
     × (after (net_of places bytes) m ts ≡ some (fire_all (load_walk w places m bytes) ts).present)
-unfolding load_walk started_at net_in
+unfolding load_walk started_at
 loaded_then_fired w places m bytes ts h g =
     let e : load_walk w places m bytes ≡ started_at (net_of places bytes) m = if_true _ _ w h in
     let r = fired_all (load_walk w places m bytes) ts g in
-    (r.0 ∙ ap (λ v. v.count + length ts) e ∙ zero-add (length ts), sym (ap (λ v. after (net_in v) v.present ts) e) ∙ r.1)
+    (r.0 ∙ ap (λ v. v.count + length ts) e ∙ zero-add (length ts), sym (ap (λ v. after v.net v.present ts) e) ∙ r.1)

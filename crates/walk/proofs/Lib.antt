@@ -4,3 +4,4 @@ pub mod Conditions
 pub mod Histories
 pub mod Swaps
 pub mod Room
+pub mod Ranges

@@ -60,7 +60,7 @@ almost = moved_to (started_at N 3) 3 65534
     N = record { places = 3; transitions = 2; pre = 1 ∷ 2 ∷ replicate 62 0; post = 1 ∷ 4 ∷ replicate 62 0; action = replicate 64 0; optional = 0 }
 
 pub room_needed : RoomNeeded
-unfolding RoomNeeded almost sets.member sets.subset sets.disjoint sets.difference sets.union sets.within below.every_below step.enabled_by step.fired_by step.conflict_by step.enabled step.fired step.touched step.conflict places_good state.net_in state.started_at state.moved_to state.sets_within state.transitions_good state.net_good state.state_good state.loaded calls.granted calls.fire_answer calls.fire_walk after fire_all
+unfolding RoomNeeded almost sets.member sets.subset sets.disjoint sets.difference sets.union sets.within below.every_below step.enabled_by step.fired_by step.conflict_by step.enabled step.fired step.touched step.conflict places_good state.started_at state.moved_to state.sets_within state.transitions_good state.net_good state.state_good state.loaded calls.granted calls.fire_answer calls.fire_walk after fire_all
 room_needed = (almost, 0 ∷ 1 ∷ [], 1 ∷ 0 ∷ [], 5, refl, swap [] 0 1 [] refl, refl, refl, λ p. distinct p)
   where
     distinct : ◌≡◌ {A = ℕ} 3 5 → ⊥

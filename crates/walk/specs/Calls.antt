@@ -1,21 +1,27 @@
 -- What each call of a walk answers, by document 01's numbers, and the walk after it ("The walk", "Refused because of the state").
 -- A refused call leaves the walk as it came. Assumes nothing.
-use Rattle.std.specs.Prelude.{ℕ, ◌+◌, Bool, cond, List, eqb, ltb}
+use Rattle.std.specs.Prelude.{ℕ, ◌+◌, Bool, cond, List, Result, Ok, Err, eqb, ltb}
 use Rattle.net.specs.Step.{enabled, fired}
 use Rattle.net.specs.Table.{net_of}
 use Rattle.net.specs.Answer.{fault, Answer as Told, refuse, grant, refused, load_fault, disabled}
 use Rattle.walk.specs.declared.Walk.{Walk}
-use Rattle.walk.specs.declared.Answer.{Answer}
-use Rattle.walk.specs.declared.Answer.TheVariants.{Granted, Unloaded, Refused, Full}
-use Rattle.walk.specs.State.{net_in, started_at, moved_to, loaded}
+use Rattle.walk.specs.declared.Reading.{Reading}
+use Rattle.walk.specs.declared.WalkRefusal.{WalkRefusal}
+use Rattle.walk.specs.declared.WalkRefusal.TheVariants.{Unloaded, Net as InNet, Full}
+use Rattle.walk.specs.State.{started_at, moved_to, loaded}
 
--- document 01's number and record of each answer, 0 where the call is granted; with 41 both sets; the marking, which a walk's answer has not, is 0
-unfoldable pub answer_of : Answer → Told
+-- document 01's number and record of each refusal; with 41 both sets; the marking, which a walk's answer has not, is 0
+unfoldable pub refused_by : WalkRefusal → Told
 unfolding refused
-answer_of Granted = grant 0
-answer_of Unloaded = refuse (fault 40 0)
-answer_of (Refused r) = refused r
-answer_of Full = refuse (fault 42 0)
+refused_by Unloaded = refuse (fault 40 0)
+refused_by (InNet why) = refused why
+refused_by Full = refuse (fault 42 0)
+
+-- and of each answer, 0 where the call is granted, whatever it hands back
+unfoldable pub answer_of : {T : Type 0} → Result T WalkRefusal → Told
+unfolding refused_by
+answer_of (Ok x) = grant 0
+answer_of (Err why) = refused_by why
 
 -- the call is granted
 unfoldable pub granted : Told → Bool
@@ -38,14 +44,14 @@ unfoldable pub fire_answer : Walk → ℕ → Told
 unfolding disabled
 fire_answer w t =
     cond (loaded w)
-    (cond (ltb t w.transitions)
-    (cond (enabled (net_in w) w.present t) (cond (ltb w.count 65535) (grant 0) (refuse (fault 42 0))) (disabled (net_in w) w.present t))
+    (cond (ltb t w.net.transitions)
+    (cond (enabled w.net w.present t) (cond (ltb w.count 65535) (grant 0) (refuse (fault 42 0))) (disabled w.net w.present t))
     (refuse (fault 8 0)))
     (refuse (fault 40 0))
 
 -- the marking after t, one more firing, and the set for that marking
 unfoldable pub fire_walk : Walk → ℕ → Walk
-fire_walk w t = cond (granted (fire_answer w t)) (moved_to w (fired (net_in w) w.present t) (w.count + 1)) w
+fire_walk w t = cond (granted (fire_answer w t)) (moved_to w (fired w.net w.present t) (w.count + 1)) w
 
 -- ---- reset and read
 
@@ -56,6 +62,11 @@ loaded_answer w = cond (loaded w) (grant 0) (refuse (fault 40 0))
 -- the start marking again, count 0, and the set for that marking
 unfoldable pub reset_walk : Walk → Walk
 reset_walk w = cond (granted (loaded_answer w)) (moved_to w w.start 0) w
+
+-- a number of what is read; 0 where the call is refused
+unfoldable pub told : (Reading → ℕ) → Result Reading WalkRefusal → ℕ
+told f (Ok r) = f r
+told f (Err why) = 0
 
 -- the present marking; 0 where the call is refused
 unfoldable pub read_marking : Walk → ℕ

@@ -10,7 +10,7 @@ use Rattle.net.specs.Answer.{Answer}
 use Rattle.net.specs.Why.{Explained}
 use Rattle.net.specs.Sequence.{after}
 use Rattle.walk.specs.declared.Walk.{Walk}
-use Rattle.walk.specs.State.{net_in, empty, storing, marked, StoresNext, loaded}
+use Rattle.walk.specs.State.{empty, storing, marked, StoresNext, loaded}
 use Rattle.walk.specs.Calls.{granted, load_answer, load_walk, fire_answer, fire_walk, loaded_answer, reset_walk, read_marking, read_count, read_next}
 
 pub data Call : Type 0 where
@@ -45,7 +45,7 @@ pub record Log : Type 0 where
 
 -- of a new walk
 unfoldable pub no_calls : Log
-no_calls = record { net = net_in empty; start = 0; firings = [] }
+no_calls = record { net = empty.net; start = 0; firings = [] }
 
 -- with one more call of the walk w
 unfoldable pub logged : Walk → Log → Call → Log
@@ -62,7 +62,7 @@ since w log (c ∷ cs) = since (called w c) (logged w log c) cs
 -- or reset, its present marking is where they lead from the start, and its stored set is that of the transitions enabled there (a new walk has no
 -- transitions, and the empty set)
 pub record Follows (w : Walk) (log : Log) : Type 0 where
-  pub net : net_in w ≡ log.net
+  pub net : w.net ≡ log.net
   pub start : w.start ≡ log.start
   pub count : w.count ≡ length log.firings
   pub present : after log.net log.start log.firings ≡ some w.present
@@ -78,7 +78,7 @@ OffersSteps = (cs : List Call) (t : ℕ) → granted (fire_answer (run empty cs)
 
 -- firing answers 41 with the sets of the transition at the present marking, one of which at least is not empty, and anything else with none
 unfoldable pub FireExplained : Type 0
-FireExplained = (w : Walk) (t : ℕ) → Explained (net_in w) w.present t (fire_answer w t)
+FireExplained = (w : Walk) (t : ℕ) → Explained w.net w.present t (fire_answer w t)
 
 -- ---- the stored set, of a walk in any condition
 

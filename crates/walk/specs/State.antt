@@ -1,59 +1,26 @@
 -- The walk as a value, as document 01 ("The walk") and document 02 (F-2) have it: the net that it carries, the set of the transitions enabled
 -- at its present marking as it is stored, and when it is loaded. Assumes nothing.
-use Rattle.std.specs.Prelude.{ℕ, ◌≡◌, Bool, ◌&&◌, List, get_or, replicate, leb}
+use Rattle.std.specs.Prelude.{ℕ, ◌≡◌, Bool, ◌&&◌, replicate, leb}
 use Rattle.tables.specs.Below.{every_below}
 use Rattle.bitset.specs.Sets.{within}
 use Rattle.net.specs.declared.Net.{Net}
-use Rattle.net.specs.Step.{next}
+use Rattle.net.specs.Step.{pre_of, post_of, next}
 use Rattle.net.specs.Table.{places_good}
 use Rattle.walk.specs.declared.Walk.{Walk}
 
--- the net that a walk carries
-unfoldable pub net_in : Walk → Net
-net_in w = record { places = w.places; transitions = w.transitions; pre = w.pre; post = w.post; action = w.action; optional = w.optional }
-
 -- a walk that carries the net N, started at the marking m: no firing yet
 unfoldable pub started_at : Net → ℕ → Walk
-started_at N m =
-    record {
-      places = N.places;
-      transitions = N.transitions;
-      pre = N.pre;
-      post = N.post;
-      action = N.action;
-      optional = N.optional;
-      start = m;
-      present = m;
-      count = 0;
-      next = next N m;
-    }
+started_at N m = record { net = N; start = m; present = m; count = 0; next = next N m }
 
 -- the walk with another present marking and count, and the set of the transitions enabled there
 unfoldable pub moved_to : Walk → (m n : ℕ) → Walk
-moved_to w m n =
-    record {
-      places = w.places;
-      transitions = w.transitions;
-      pre = w.pre;
-      post = w.post;
-      action = w.action;
-      optional = w.optional;
-      start = w.start;
-      present = m;
-      count = n;
-      next = next (net_in w) m;
-    }
+moved_to w m n = record { net = w.net; start = w.start; present = m; count = n; next = next w.net m }
 
 -- a new walk: all zero
 unfoldable pub empty : Walk
 empty =
     record {
-      places = 0;
-      transitions = 0;
-      pre = replicate 64 0;
-      post = replicate 64 0;
-      action = replicate 64 0;
-      optional = 0;
+      net = record { places = 0; transitions = 0; pre = replicate 64 0; post = replicate 64 0; action = replicate 64 0; optional = 0 };
       start = 0;
       present = 0;
       count = 0;
@@ -62,30 +29,21 @@ empty =
 
 -- the walk with another stored number
 unfoldable pub storing : Walk → ℕ → Walk
-storing w n =
-    record {
-      places = w.places;
-      transitions = w.transitions;
-      pre = w.pre;
-      post = w.post;
-      action = w.action;
-      optional = w.optional;
-      start = w.start;
-      present = w.present;
-      count = w.count;
-      next = n;
-    }
+storing w n = record { net = w.net; start = w.start; present = w.present; count = w.count; next = n }
 
 -- the walk with another set of optional transitions
 unfoldable pub marked : Walk → ℕ → Walk
 marked w n =
     record {
-      places = w.places;
-      transitions = w.transitions;
-      pre = w.pre;
-      post = w.post;
-      action = w.action;
-      optional = n;
+      net =
+          record {
+            places = w.net.places;
+            transitions = w.net.transitions;
+            pre = w.net.pre;
+            post = w.net.post;
+            action = w.net.action;
+            optional = n;
+          };
       start = w.start;
       present = w.present;
       count = w.count;
@@ -94,26 +52,26 @@ marked w n =
 
 -- the stored set is that of the transitions enabled at the present marking
 abbrev pub StoresNext : Walk → Type 0
-StoresNext w = w.next ≡ next (net_in w) w.present
+StoresNext w = w.next ≡ next w.net w.present
 
 -- ---- loaded
 
 -- the pre set and the post set of t lie within the places
-unfoldable pub sets_within : ℕ → (pre post : List ℕ) → ℕ → Bool
-sets_within places pre post t = within places (get_or pre t 0) && within places (get_or post t 0)
+unfoldable pub sets_within : Net → ℕ → Bool
+sets_within N t = within N.places (pre_of N t) && within N.places (post_of N t)
 
 -- the transitions are 1 to 64
 unfoldable pub transitions_good : ℕ → Bool
 transitions_good n = leb 1 n && leb n 64
 
 -- the net of a walk would not meet 1, 2 or 3
-unfoldable pub net_good : (places transitions : ℕ) (pre post : List ℕ) → Bool
-net_good places transitions pre post = (places_good places && transitions_good transitions) && every_below (sets_within places pre post) transitions
+unfoldable pub net_good : Net → Bool
+net_good N = (places_good N.places && transitions_good N.transitions) && every_below (sets_within N) N.transitions
 
 -- its markings would not meet 7, and its count is at most 65,535
-unfoldable pub state_good : (places start present count : ℕ) → Bool
-state_good places start present count = within places start && within places present && leb count 65535
+unfoldable pub state_good : Walk → Bool
+state_good w = within w.net.places w.start && within w.net.places w.present && leb w.count 65535
 
 -- both; the stored set does not matter
 unfoldable pub loaded : Walk → Bool
-loaded w = net_good w.places w.transitions w.pre w.post && state_good w.places w.start w.present w.count
+loaded w = net_good w.net && state_good w

@@ -5,13 +5,13 @@ use Rattle.net.specs.Answer.{fault, refuse}
 use Rattle.net.specs.Sequence.{after}
 use Rattle.net.specs.Swaps.{Swapped}
 use Rattle.walk.specs.declared.Walk.{Walk}
-use Rattle.walk.specs.State.{net_in, loaded}
+use Rattle.walk.specs.State.{loaded}
 use Rattle.walk.specs.Calls.{fire_answer}
 use Rattle.walk.specs.History.{fire_all, all_granted}
 
 -- ts is a firing sequence from the present marking of w, and leads to e
 abbrev pub Leads : Walk → List ℕ → ℕ → Type 0
-Leads w ts e = after (net_in w) w.present ts ≡ some e
+Leads w ts e = after w.net w.present ts ≡ some e
 
 -- firing ts and firing us come to the same, where both lead to e
 pub record SameWalk (w : Walk) (ts us : List ℕ) (e : ℕ) : Type 0 where
@@ -27,11 +27,11 @@ pub record SameWalk (w : Walk) (ts us : List ℕ) (e : ℕ) : Type 0 where
 -- of a walk in any condition and two lists that differ only by swaps of independent neighbours: where one is a firing sequence from its present
 -- marking, and so the other is (`SwappedLead`), and the count before and their length add up to at most 65,535
 unfoldable pub OrderFree : Type 0
-OrderFree = (w : Walk) (ts us : List ℕ) (e : ℕ) → Swapped (net_in w) ts us → Leads w ts e → w.count + length ts ≤ 65535 → SameWalk w ts us e
+OrderFree = (w : Walk) (ts us : List ℕ) (e : ℕ) → Swapped w.net ts us → Leads w ts e → w.count + length ts ≤ 65535 → SameWalk w ts us e
 
 -- where some firings are refused, the walk is equal too
 unfoldable pub RefusedToo : Type 0
-RefusedToo = (w : Walk) (ts us : List ℕ) → Swapped (net_in w) ts us → w.count + length ts ≤ 65535 → fire_all w ts ≡ fire_all w us
+RefusedToo = (w : Walk) (ts us : List ℕ) → Swapped w.net ts us → w.count + length ts ≤ 65535 → fire_all w ts ≡ fire_all w us
 
 -- ---- a larger sum
 
@@ -43,5 +43,5 @@ CountFull = (w : Walk) (ts : List ℕ) (e : ℕ) → loaded w ≡ true → Leads
 -- large
 unfoldable pub RoomNeeded : Type 0
 RoomNeeded =
-    (w : Walk) × (ts : List ℕ) × (us : List ℕ) × (e : ℕ) × (loaded w ≡ true) × Swapped (net_in w) ts us × Leads w ts e
+    (w : Walk) × (ts : List ℕ) × (us : List ℕ) × (e : ℕ) × (loaded w ≡ true) × Swapped w.net ts us × Leads w ts e
     × (w.count + length ts ≡ 65536) × ((fire_all w ts).present ≡ (fire_all w us).present → ⊥)

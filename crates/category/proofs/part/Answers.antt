@@ -1,14 +1,13 @@
 -- `category::part` meets its contract. Assumes nothing.
-use mathlib.Core.Path.{◌∙◌}
-use borrow.Author.Rules.{rules}
-use Rattle.category.proofs.Sources.{offset_in, size_in, offset_out, size_out}
+use mathlib.Core.Path.{sym, subst, ◌∙◌}
+use Prim.Native.Nat.{ℕ, ◌<◌}
+use Rattle.category.specs.Records.{count}
+use Rattle.category.proofs.Sources.{offset_in, size_in}
 use Rattle.category.proofs.part.Goals as goal
 
-pub returns-then-i-file : goal.returns-then-i-file
-returns-then-i-file c = (
-  offset_in _ _ _ c.find-i.ensures (search rules),
-  c.text_length-size.ensures.0 ∙ size_in _ _ _ c.find-i.ensures (search rules),
-)
-
 pub returns : goal.returns
-returns c = (offset_out _ _ _ c.find-i.ensures (search rules), size_out _ _ _ c.find-i.ensures (search rules))
+returns c =
+    let f = c.in_ok-found.ensures in
+    let l = subst (λ (x : ℕ). x < count c.args.file.now) f.1.1 f.0 in
+    let s = rw f.1.0 at c.text_length.ensures.0 in
+    (f.0, (offset_in _ _ _ (sym f.1.1) l, s ∙ size_in _ _ _ (sym f.1.1) l))

@@ -1,45 +1,37 @@
 -- `category::place` meets its contract. Assumes nothing.
 use mathlib.Core.Path.{sym, ◌∙◌}
-use native.Mathlib.Omega.{arith}
 use Rattle.category.specs.Labels.{nowhere}
-use Rattle.category.proofs.Places.{placed, placed_first, placed-second, placed-neither, placed_faulty, size_of_place}
+use Rattle.category.proofs.Places.{placed, placed_first, placed-second, placed-neither, placed_faulty}
 use Rattle.category.proofs.Answers.{faultless_count, first_good, second_good}
 use Rattle.category.proofs.place.Goals as goal
 
-pub place_in-translated-requires : goal.place_in-translated-requires
-place_in-translated-requires c = faultless_count _ (first_good _ _ (sym c.both_good.ensures ∙ c.if-both_good.true))
+pub place_in-requires : goal.place_in-requires
+place_in-requires c = faultless_count _ (first_good _ _ (sym c.both_good.ensures ∙ c.if-both_good.true))
 
-pub returns-then-translated-gt0 : goal.returns-then-translated-gt0
-returns-then-translated-gt0 c =
-    let p = c.place_in-translated in
+pub returns-in-Some : goal.returns-in-Some
+returns-in-Some c =
+    let p = c.in-Some.ensures in
     let a = c.args in
-    let e = p.ensures ∙ placed_first a.translation.now a.house.now a.action (sym c.both_good.ensures ∙ c.if-both_good.true) (omega (arith, size_of_place _ _ _ _ p.ensures, c.if-translated-gt0.true)) in
-    record { place = e; bytes = (placed a.translation.now a.house.now a.action p.result e).1 }
+    let e = p.1 ∙ placed_first a.translation.now a.house.now a.action (sym c.both_good.ensures ∙ c.if-both_good.true) p.0 in
+    record { place = e; bytes = (placed a.translation.now a.house.now a.action _ e).1 }
 
-pub place_in-untranslated-requires : goal.place_in-untranslated-requires
-place_in-untranslated-requires c =
+pub place_in-requires-then-both_good : goal.place_in-requires-then-both_good
+place_in-requires-then-both_good c =
     faultless_count _ (second_good _ _ (sym c.both_good.ensures ∙ c.if-both_good.true))
 
-pub returns-then-untranslated-gt0 : goal.returns-then-untranslated-gt0
-returns-then-untranslated-gt0 c =
-    let p = c.place_in-translated in
-    let q = c.place_in-untranslated in
+pub returns-in-Some-place_in : goal.returns-in-Some-place_in
+returns-in-Some-place_in c =
+    let p = c.in-Some-place_in.ensures in
+    let n = c.in_default.ensures in
     let a = c.args in
-    let e = q.ensures
-    ∙ placed-second a.translation.now a.house.now a.action (sym c.both_good.ensures ∙ c.if-both_good.true)
-    (omega (arith, size_of_place _ _ _ _ p.ensures, c.if-translated-gt0.false))
-    (omega (arith, size_of_place _ _ _ _ q.ensures, c.if-untranslated-gt0.true)) in
-    record { place = e; bytes = (placed a.translation.now a.house.now a.action q.result e).1 }
+    let e = p.1 ∙ placed-second a.translation.now a.house.now a.action (sym c.both_good.ensures ∙ c.if-both_good.true) n p.0 in
+    record { place = e; bytes = (placed a.translation.now a.house.now a.action _ e).1 }
 
-pub returns-else-untranslated-gt0 : goal.returns-else-untranslated-gt0
+pub returns-in_default-place_in : goal.returns-in_default-place_in
 unfolding nowhere
-returns-else-untranslated-gt0 c =
-    let p = c.place_in-translated in
-    let q = c.place_in-untranslated in
+returns-in_default-place_in c =
     let a = c.args in
-    let e = placed-neither a.translation.now a.house.now a.action (sym c.both_good.ensures ∙ c.if-both_good.true)
-    (omega (arith, size_of_place _ _ _ _ p.ensures, c.if-translated-gt0.false))
-    (omega (arith, size_of_place _ _ _ _ q.ensures, c.if-untranslated-gt0.false)) in
+    let e = placed-neither a.translation.now a.house.now a.action (sym c.both_good.ensures ∙ c.if-both_good.true) c.in_default.ensures c.in_default-place_in.ensures in
     record { place = e; bytes = (placed a.translation.now a.house.now a.action _ e).1 }
 
 pub returns-else-both_good : goal.returns-else-both_good

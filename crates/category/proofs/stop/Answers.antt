@@ -1,20 +1,18 @@
--- `category::stop` meets its contract. The loop's invariant: no record passed has the action or a greater one. Assumes nothing.
-use mathlib.Core.Path.{sym, ◌∙◌}
+-- `category::stop` meets its contract. Assumes nothing.
+use mathlib.Core.Path.{◌≡◌}
+use mathlib.Core.Bool.{Bool, true, false}
+use Prim.Native.Nat.{ℕ}
 use borrow.Author.Rules.{rules}
-use Rattle.category.specs.Labels.{stop_of}
-use Rattle.category.proofs.Scan.{passed_none, passed_more, passed_first, passed_all}
+use borrow.Author.Tests.{tests}
+use Rattle.std.proofs.lemmas.Iterator.{first_from_Range}
+use Rattle.category.specs.Labels.{reaches}
+use Rattle.category.proofs.Scan.{searched_first}
 use Rattle.category.proofs.stop.Goals as goal
 
-pub loop-i-init : goal.loop-i-init
-loop-i-init c = passed_none _ _ _ (search rules)
-
-pub returns-then-reaches : goal.returns-then-reaches
-unfolding stop_of
-returns-then-reaches c = passed_first c.loop-i.invariant (search rules) (sym c.reaches.ensures ∙ c.if-reaches.true)
-
-pub loop-i-preserved : goal.loop-i-preserved
-loop-i-preserved c = passed_more c.loop-i.invariant (search rules) (sym c.reaches.ensures ∙ c.if-reaches.false)
-
 pub returns : goal.returns
-unfolding stop_of
-returns c = passed_all c.loop-i.invariant (search rules)
+returns c =
+    let f : ℕ → Bool = reaches c.args.file.now c.args.action in
+    searched_first f _ _
+    (first_from_Range _ _ _ _ (λ i. f i ≡ true) (λ i. f i ≡ false) c.find.ensures.ran
+    (λ x q k. search (rules, tests))
+    (λ x q k. (search rules, search (rules, tests))))

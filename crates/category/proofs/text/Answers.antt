@@ -1,18 +1,21 @@
 -- `category::text` meets its contract. Assumes nothing.
-use mathlib.Core.Path.{refl}
+use mathlib.Core.Path.{◌≡◌, refl}
+use Prim.Native.Nat.{◌+◌}
 use native.Mathlib.Omega.{arith}
-use native.Mathlib.Nat.{add-sub_cancel_left}
-use Rattle.category.specs.Labels.{text_of}
-use Rattle.category.proofs.Sources.{part_inside}
+use Rattle.category.specs.Labels.{text_of, text_offset}
+use Rattle.category.proofs.Sources.{nothing, answer_or}
 use Rattle.category.proofs.text.Goals as goal
 
-pub overflow_add-result : goal.overflow_add-result
-overflow_add-result c = omega (arith, c.part-p.ensures.0, c.part-p.ensures.1, part_inside c.args.file.now c.args.action)
-
-pub slice_bounds-result-end : goal.slice_bounds-result-end
-slice_bounds-result-end c = omega (arith, c.part-p.ensures.0, c.part-p.ensures.1, part_inside c.args.file.now c.args.action)
-
 pub returns : goal.returns
-unfolding text_of
 returns c =
-    record { bytes = simp (add-sub_cancel_left, c.part-p.ensures.0, c.part-p.ensures.1); part = (refl, simp c.part-p.ensures.0) }
+    let file = c.args.file in
+    let a = c.args.action in
+    let r = answer_or file.now a
+    (λ t. t.now ≡ text_of file.now a)
+    (λ t. (t.ref_ptr.0 ≡ file.ref_ptr.0) × (t.ref_ptr.1 ≡ text_offset file.now a + file.ref_ptr.1))
+    c.text_in.result
+    _
+    c.text_in.ensures.bytes
+    c.text_in.ensures.part
+    (λ e. let n = nothing file.now a e in (n.0, (refl, omega (arith, n.1)))) in
+    record { bytes = rw c.unwrap_or.ensures r.0; part = rw c.unwrap_or.ensures r.1 }

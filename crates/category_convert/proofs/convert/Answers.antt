@@ -1,14 +1,20 @@
 -- `category_convert::convert` meets its contract. Assumes nothing.
-use mathlib.Core.Path.{sym, ap, ◌∙◌}
-use Rattle.category.specs.Faults.{checked}
-use Rattle.category_convert.proofs.Answers.{passed, refused_size, refused_record}
+use Rattle.std.proofs.lemmas.Result.{err_from_is_err_and}
+use Rattle.category_convert.proofs.Answers.{passed, refused_table, refused_short, converts}
 use Rattle.category_convert.proofs.convert.Goals as goal
 
-pub convert_valid-requires : goal.convert_valid-requires
-convert_valid-requires c = passed _ (ap checked (sym c.in-Good.is) ∙ c.check_file-found.ensures)
+pub returns-in_err-check_file : goal.returns-in_err-check_file
+returns-in_err-check_file c =
+    let p = err_from_is_err_and c.from_residual.result c.from_residual.ensures.1 in
+    rw (p.1, p.2) (refused_table _ _ _ c.in_err-check_file.ensures)
 
-pub returns-in-Size : goal.returns-in-Size
-returns-in-Size c = refused_size _ _ (ap checked (sym c.in-Size.is) ∙ c.check_file-found.ensures)
+pub returns-then-room-file : goal.returns-then-room-file
+returns-then-room-file c = refused_short _ (passed _ _ c.in_ok-check_file.ensures) _ c.if-room-file.true
 
-pub returns-in-Record : goal.returns-in-Record
-returns-in-Record c = refused_record _ _ _ (ap checked (sym c.in-Record.is) ∙ c.check_file-found.ensures)
+pub put_records-requires : goal.put_records-requires
+put_records-requires c = (passed _ _ c.in_ok-check_file.ensures, c.if-room-file.false)
+
+pub returns : goal.returns
+returns c =
+    let done = c.put_records.ensures in
+    converts _ (passed _ _ c.in_ok-check_file.ensures) _ _ c.if-room-file.false done.0 done.1

@@ -1,33 +1,22 @@
--- `category_convert::first_bad` meets its contract. The loop's invariant: no record passed is faulty. Assumes nothing.
-use mathlib.Core.Path.{sym, ◌∙◌}
-use Prim.Native.Nat.{◌-◌}
-use native.Mathlib.Omega.{arith}
+-- `category_convert::first_bad` meets its contract. Assumes nothing.
+use mathlib.Core.Path.{◌≡◌}
+use mathlib.Core.Bool.{Bool, true, false}
+use Prim.Native.Nat.{ℕ}
 use borrow.Author.Rules.{rules}
-use Rattle.category_convert.proofs.Prefix.{prefix_le, prefix_bad}
-use Rattle.category.proofs.Scan.{passed_none, passed_more, passed_first}
-use Rattle.category_convert.proofs.Lowest.{passed_lowest, lowest_first}
+use borrow.Author.Tests.{tests}
+use Rattle.std.proofs.lemmas.Iterator.{first_from_Range}
+use Rattle.category_borrowed.specs.Files.{faulty_at}
+use Rattle.category_convert.proofs.Prefix.{prefix_of, first_after}
 use Rattle.category_convert.proofs.first_bad.Goals as goal
 
-pub loop-i-init : goal.loop-i-init
-loop-i-init c = (search rules, passed_none _ _ _ (search rules))
-
-pub returns-then-record_bad : goal.returns-then-record_bad
-returns-then-record_bad c = passed_first
-    c.loop-i.invariant.1
-    (omega (arith, prefix_le _ _ c.ascending_prefix-prefix.ensures))
-    (sym c.record_bad.ensures ∙ c.if-record_bad.true)
-
-pub loop-i-preserved : goal.loop-i-preserved
-loop-i-preserved c = (
-  search rules,
-  passed_more
-      c.loop-i.invariant.1
-      (omega (arith, prefix_le _ _ c.ascending_prefix-prefix.ensures))
-      (sym c.record_bad.ensures ∙ c.if-record_bad.false),
-)
+pub invariant_of-ordered : goal.invariant_of-ordered
+invariant_of-ordered c = record { measured = prefix_of _ _ _ c.first_fall-fall.ensures c.unwrap_or.ensures }
 
 pub returns : goal.returns
-returns c = lowest_first
-    (passed_lowest
-    c.loop-i.invariant.1
-    (prefix_bad _ _ _ c.ascending_prefix-prefix.ensures (search rules) c.loop-i.invariant.0))
+returns c =
+    let f : ℕ → Bool = faulty_at c.args.file.now in
+    rw c.or.ensures
+    (first_after _ _ _ _ c.first_fall-fall.ensures c.unwrap_or.ensures
+    (first_from_Range _ _ _ _ (λ i. f i ≡ true) (λ i. f i ≡ false) c.find.ensures.ran
+    (λ x q k. search (rules, tests))
+    (λ x q k. (search rules, search (rules, tests)))))

@@ -4,4 +4,4 @@ use Rattle.category_convert.proofs.lends_at.Goals as goal
 
 pub returns : goal.returns
 unfolding lends_at
-returns c = simp (c.has_action.ensures, c.kind_at.ensures)
+returns c = simp (c.has_action.ensures, c.kind.ensures)

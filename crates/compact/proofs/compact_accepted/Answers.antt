@@ -62,4 +62,4 @@ returns c =
     writes
     (record { ready = c.requires; asked = c.ask_of-a.ensures; marked = c.reached-marks.ensures; numbered = c.numbers_of-numbers.ensures })
     (tables c.args.new_ask.now c.args.new_formulas.now c.args.new_tree.now)
-    c.if-not-new_ask-count.false-raw c.ask_with.ensures c.put_ask.ensures c.put_formulas.ensures c.put_nodes.ensures
+    c.if-not-new_ask-count.false-raw c.put_ask.ensures c.put_formulas.ensures c.put_nodes.ensures

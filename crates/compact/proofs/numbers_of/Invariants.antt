@@ -1,13 +1,9 @@
 -- `compact::numbers-of` meets its contract. The invariant: the numbers below i are found, and n marks are counted. Assumes nothing.
 use mathlib.Core.Path.{◌≡◌}
-use Prim.Native.Nat.{◌-◌, ◌≤◌}
 use Rattle.tables.specs.Lists.{tab, up_to}
 use Rattle.tables.specs.Below.{count_below}
 use Rattle.compact.specs.Serving.{is_marked}
 use Rattle.compact.proofs.numbers_of.Given as goal
 
 abbrev pub invariant-loop-i : goal.invariant-loop-i
-invariant-loop-i l = (l.i ≤ 256) × (l.n ≡ count_below (is_marked l.marks) l.i) × (l.numbers ≡ tab (up_to (count_below (is_marked l.marks)) l.i) 256)
-
-abbrev pub decreases-loop-i : goal.decreases-loop-i
-decreases-loop-i l = 256 - l.i
+invariant-loop-i l = (l.n ≡ count_below (is_marked l.marks) l.i) × (l.numbers ≡ tab (up_to (count_below (is_marked l.marks)) l.i) 256)

@@ -1,6 +1,6 @@
 -- `compact::put_formulas` meets its contract. The invariant: the marked ones of the first i records are stored. Assumes nothing.
-use Prim.Native.Nat.{◌-◌}
 use borrow.Author.Rules.{rules}
+use borrow.Author.Tests.{not-true, not-false}
 use Rattle.pctl.specs.Table.{formulas}
 use Rattle.compact.proofs.Records.{few}
 use Rattle.compact.proofs.Writing.{kept_none, kept_most, kept_skip, kept_room, kept_next, kept_all}
@@ -13,14 +13,14 @@ pub bounds-marks-i : goal.bounds-marks-i
 unfolding formulas
 bounds-marks-i c = few _ c.requires.0 c.loop-i.i c.loop-i-test.true
 
-pub loop-i-preserved-then-marks-i-ne1 : goal.loop-i-preserved-then-marks-i-ne1
+pub loop-i-preserved-then-not-marks-i : goal.loop-i-preserved-then-not-marks-i
 unfolding formulas
-loop-i-preserved-then-marks-i-ne1 c = kept_skip _ _ _ c.loop-i.invariant c.loop-i-test.true c.if-marks-i-ne1.true
+loop-i-preserved-then-not-marks-i c = kept_skip _ _ _ c.loop-i.invariant c.loop-i-test.true (not-true _ c.if-not-marks-i.true-raw)
 
 pub put_record-requires : goal.put_record-requires
 unfolding formulas
 put_record-requires c =
-    (c.requires.0, c.loop-i-test.true, kept_room _ _ _ c.loop-i.invariant c.loop-i-test.true c.if-marks-i-ne1.false c.requires.1)
+    (c.requires.0, c.loop-i-test.true, kept_room _ _ _ c.loop-i.invariant c.loop-i-test.true (not-false _ c.if-not-marks-i.false-raw) c.requires.1)
 
 pub overflow_add-n : goal.overflow_add-n
 overflow_add-n c = let h = kept_most _ _ _ c.loop-i.invariant in search rules
@@ -28,7 +28,7 @@ overflow_add-n c = let h = kept_most _ _ _ c.loop-i.invariant in search rules
 pub loop-i-preserved : goal.loop-i-preserved
 unfolding formulas
 loop-i-preserved c =
-    kept_next _ _ _ c.loop-i.invariant c.loop-i-test.true c.if-marks-i-ne1.false c.put_record.ensures
+    kept_next _ _ _ c.loop-i.invariant c.loop-i-test.true (not-false _ c.if-not-marks-i.false-raw) c.put_record.ensures
 
 pub shape_of-room : goal.shape_of-room
 shape_of-room c = c.loop-i.invariant.laid.size

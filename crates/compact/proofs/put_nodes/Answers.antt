@@ -1,5 +1,4 @@
 -- `compact::put_nodes` meets its contract. The invariant: the first k nodes are stored. Assumes nothing.
-use Prim.Native.Nat.{◌-◌}
 use borrow.Author.Rules.{rules}
 use Rattle.tables.proofs.Counts.{record_inside}
 use Rattle.nodes.specs.Nodes.{nodes}
@@ -31,8 +30,7 @@ put_node-requires c =
 pub loop-k-preserved : goal.loop-k-preserved
 unfolding nodes
 loop-k-preserved c =
-    put_next _ _ c.loop-k.invariant c.loop-k-test.true c.node_at-n.ensures
-    c.node_with.ensures c.put_node.ensures
+    put_next _ _ c.loop-k.invariant c.loop-k-test.true c.node_at-n.ensures c.put_node.ensures
 
 pub shape_of-room : goal.shape_of-room
 shape_of-room c = c.loop-k.invariant.laid.size

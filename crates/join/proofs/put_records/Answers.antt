@@ -1,5 +1,4 @@
 -- `join::put_records` meets its contract. The invariant: the records below t are stored. Assumes nothing.
-use Prim.Native.Nat.{◌-◌}
 use native.Mathlib.Omega.{arith}
 use borrow.Author.Rules.{rules}
 use Rattle.tables.proofs.Counts.{record_inside}
@@ -9,19 +8,19 @@ use Rattle.join.proofs.Records.{next_place}
 use Rattle.join.proofs.put_records.Goals as goal
 
 pub loop-t-init : goal.loop-t-init
-loop-t-init c = (omega arith, stored_none _ _ _)
+loop-t-init c = stored_none _ _ _
 
 pub put_record-requires : goal.put_record-requires
 put_record-requires c =
     let l = c.loop-t in
-    (c.requires.0, search rules, omega (arith, c.requires.1, l.invariant.1.size, record_inside 24 _ l.t c.loop-t-test.true))
+    (c.requires.0, search rules, omega (arith, c.requires.1, l.invariant.size, record_inside 24 _ l.t c.loop-t-test.true))
 
 pub loop-t-preserved : goal.loop-t-preserved
 unfolding transitions
 loop-t-preserved c =
     let l = c.loop-t in
-    (omega arith, stored_next l.invariant.1 _ (next_place _ _ _ l.t l.invariant.0) c.put_record.ensures)
+    stored_next l.invariant _ (next_place _ _ _ l.t l.auto.t-end) c.put_record.ensures
 
 pub returns : goal.returns
 unfolding transitions
-returns c = stored_all c.loop-t.invariant.1 c.loop-t.invariant.0 c.loop-t-test.false
+returns c = stored_all c.loop-t.invariant c.loop-t.auto.t-end c.loop-t-test.false

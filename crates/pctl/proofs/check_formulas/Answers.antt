@@ -1,25 +1,32 @@
 -- `pctl::check_formulas` meets its contract. Assumes nothing.
-use mathlib.Core.Path.{◌∙◌, sym}
+use mathlib.Core.Path.{◌≡◌, refl, sym, ap, ◌∙◌}
+use borrow.Author.Rules.{rules}
+use Rattle.std.proofs.Common.{Err}
 use lib.ListN.{length}
-use Rattle.tables.proofs.Scans.{scan_size, scan_record, scan_good, records_inside}
+use Rattle.std.proofs.lemmas.Result.{err_from_is_err_and}
+use Rattle.tables.specs.declared.TableFault.{TableFault}
+use Rattle.tables.specs.declared.TableFault.TheVariants.{Size, Record}
+use Rattle.tables.specs.Checks.{answered, told}
+use Rattle.tables.proofs.Checks.{checked_fault}
 use Rattle.pctl.specs.Table.{checked, formulas_fault, formula_bad}
 use Rattle.pctl.proofs.check_formulas.Goals as goal
 
-pub returns-in_default : goal.returns-in_default
-unfolding checked formulas_fault
-returns-in_default c = let a = c.args in scan_size 4 5 8 1 256 (formula_bad a.formulas.now) (length a.formulas.now) (sym c.records.ensures ∙ c.in_default.is)
+told_checked : (f : TableFault) → checked (Err f) ≡ told 4 5 f
+unfolding checked told
+told_checked Size = refl
+told_checked (Record r) = refl
 
-pub first_bad-bad-requires : goal.first_bad-bad-requires
-first_bad-bad-requires c = let a = c.args in records_inside 4 5 8 1 256 (formula_bad a.formulas.now) (length a.formulas.now) _ (sym c.records.ensures ∙ c.in-Whole.is)
-
-pub returns-then-bad-count : goal.returns-then-bad-count
-unfolding checked formulas_fault
-returns-then-bad-count c =
-    let a = c.args in
-    scan_record 4 5 8 1 256 (formula_bad a.formulas.now) (length a.formulas.now) _ _ (sym c.records.ensures ∙ c.in-Whole.is) c.first_bad-bad.ensures c.if-bad-count.true
+pub returns-in_err-check_records : goal.returns-in_err-check_records
+unfolding answered formulas_fault
+returns-in_err-check_records c =
+    let F = c.args.formulas.now in
+    let p = err_from_is_err_and c.from_residual.result c.from_residual.ensures.1 in
+    let e = c.check_records.ensures (formula_bad F) (λ t b l h. search rules) in
+    rw (p.1, p.2) (told_checked _ ∙ ap (answered 4 5) (sym c.in_err-check_records.was ∙ e) ∙ checked_fault 8 1 256 (formula_bad F) (length F) 4 5)
 
 pub returns : goal.returns
-unfolding checked formulas_fault
+unfolding checked answered formulas_fault
 returns c =
-    let a = c.args in
-    scan_good 4 5 8 1 256 (formula_bad a.formulas.now) (length a.formulas.now) _ _ (sym c.records.ensures ∙ c.in-Whole.is) c.first_bad-bad.ensures c.if-bad-count.false
+    let F = c.args.formulas.now in
+    let e = c.check_records.ensures (formula_bad F) (λ t b l h. search rules) in
+    ap (answered 4 5) (sym c.in_ok-check_records.was ∙ e) ∙ checked_fault 8 1 256 (formula_bad F) (length F) 4 5

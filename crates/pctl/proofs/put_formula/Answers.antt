@@ -8,4 +8,5 @@ pub returns : goal.returns
 returns c =
     let s = c.args in
     formula_put s.room.now (s.k * formula_size) s.r
-    c.put_bytes.ensures c.put_bytes-2.ensures c.put_bytes-3.ensures c.put_bytes-4.ensures c.put_bytes-5.ensures
+    (rw c.from.ensures at c.put_bytes.ensures) c.put_bytes-2.ensures (rw c.from-2.ensures at c.put_bytes-3.ensures)
+    (rw c.from-3.ensures at c.put_bytes-4.ensures) (rw c.from-4.ensures at c.put_bytes-5.ensures)

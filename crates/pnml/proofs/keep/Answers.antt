@@ -9,4 +9,4 @@ use Rattle.pnml.proofs.keep.Goals as goal
 pub slice_bounds-write_argument-end : goal.slice_bounds-write_argument-end
 unfolding found_of
 slice_bounds-write_argument-end c =
-    sym (length-take-le _ _ (subst (λ x. (found_of x).length ≤ length c.args.records.now) c.in-Granted.is c.requires))
+    sym (length-take-le _ _ (subst (λ x. (found_of x).length ≤ length c.args.records.now) c.in-Ok.is c.requires))

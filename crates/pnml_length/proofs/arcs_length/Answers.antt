@@ -1,6 +1,5 @@
 -- `pnml_length::arcs_length` meets its contract. The invariant: the arcs of the first t transitions are counted. Assumes nothing.
 use mathlib.Core.Path.{ap}
-use Prim.Native.Nat.{◌-◌, zero-le}
 use native.Mathlib.Nat.{le_antisymm}
 use native.Mathlib.Omega.{arith}
 use Rattle.net.specs.Table.{pre_at, post_at}
@@ -11,18 +10,16 @@ use Rattle.pnml_length.proofs.arcs_length.Goals as goal
 
 pub loop-t-init : goal.loop-t-init
 unfolding table_arcs
-loop-t-init c = (zero-le, no_arcs _ _)
+loop-t-init c = no_arcs _ _
 
 pub loop-t-preserved : goal.loop-t-preserved
 unfolding pre_at post_at
-loop-t-preserved c = (
-  omega (arith, c.loop-t-test.true),
-  recast_arcs (omega arith) (table_more _ _ _ _ _ c.u64_at-pre.ensures c.u64_at-post.ensures)
-      (join_arcs c.loop-t.invariant.1 (join_arcs c.arcs_by-half.ensures c.arcs_by-sum.ensures)),
-)
+loop-t-preserved c =
+    recast_arcs (omega arith) (table_more _ _ _ _ _ c.u64_at-pre.ensures c.u64_at-post.ensures)
+    (join_arcs c.loop-t.invariant (join_arcs c.arcs_by-half.ensures c.arcs_by-sum.ensures))
 
 pub returns : goal.returns
 returns c =
     let a = c.args in
-    let e = le_antisymm c.loop-t.invariant.0 c.loop-t-test.false in
-    recount (omega arith) (ap (λ k. arcs_text a.net.now a.places k) e) (arcs_count _ c.loop-t.invariant.1)
+    let e = le_antisymm c.loop-t.auto.t-end c.loop-t-test.false in
+    recount (omega arith) (ap (λ k. arcs_text a.net.now a.places k) e) (arcs_count _ c.loop-t.invariant)

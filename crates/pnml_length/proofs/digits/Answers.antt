@@ -3,17 +3,17 @@ use native.Mathlib.Omega.{arith}
 use Rattle.pnml_length.proofs.Sums.{digits_one, digits_two, digits_three, digits_four, digits_five}
 use Rattle.pnml_length.proofs.digits.Goals as goal
 
-pub returns-then-n-lt10 : goal.returns-then-n-lt10
-returns-then-n-lt10 c = (digits_one _ c.if-n-lt10.true, omega arith)
+pub returns-in-0-to-9 : goal.returns-in-0-to-9
+returns-in-0-to-9 c = (digits_one _ (omega arith), omega arith)
 
-pub returns-then-n-lt100 : goal.returns-then-n-lt100
-returns-then-n-lt100 c = (digits_two _ c.if-n-lt10.false c.if-n-lt100.true, omega arith)
+pub returns-in-10-to-99 : goal.returns-in-10-to-99
+returns-in-10-to-99 c = (digits_two _ (omega arith) (omega arith), omega arith)
 
-pub returns-then-n-lt1000 : goal.returns-then-n-lt1000
-returns-then-n-lt1000 c = (digits_three _ c.if-n-lt100.false c.if-n-lt1000.true, omega arith)
+pub returns-in-100-to-999 : goal.returns-in-100-to-999
+returns-in-100-to-999 c = (digits_three _ (omega arith) (omega arith), omega arith)
 
-pub returns-then-n-lt10000 : goal.returns-then-n-lt10000
-returns-then-n-lt10000 c = (digits_four _ c.if-n-lt1000.false c.if-n-lt10000.true, omega arith)
+pub returns-in-1000-to-9999 : goal.returns-in-1000-to-9999
+returns-in-1000-to-9999 c = (digits_four _ (omega arith) (omega arith), omega arith)
 
-pub returns : goal.returns
-returns c = (digits_five _ c.if-n-lt10000.false c.requires, omega arith)
+pub returns-in_default : goal.returns-in_default
+returns-in_default c = (digits_five _ (omega arith) c.requires, omega arith)

@@ -1,6 +1,5 @@
 -- `pnml_length::transitions_length` meets its contract. The invariant: the first t transitions are counted. Assumes nothing.
 use mathlib.Core.Path.{ap}
-use Prim.Native.Nat.{◌-◌, zero-le}
 use native.Mathlib.Nat.{le_antisymm}
 use native.Mathlib.Omega.{arith}
 use Rattle.net.specs.Table.{action_at}
@@ -14,19 +13,17 @@ use Rattle.pnml_length.proofs.transitions_length.Goals as goal
 
 pub loop-t-init : goal.loop-t-init
 unfolding countdown drawing.transitions drawing.joined
-loop-t-init c = (zero-le, none)
+loop-t-init c = none
 
 pub loop-t-preserved : goal.loop-t-preserved
 unfolding action_at
 loop-t-preserved c =
     let net = c.args.net.now in
-    let e = c.transition_length-length.ensures in (
-      omega (arith, c.loop-t-test.true),
-      count_more 107 _ _ c.loop-t.invariant.1 e.exact e.bound (omega arith)
-          (transitions_more (entry_at net) _ _ (entry_read net _ c.u16_at-action.ensures)),
-    )
+    let e = c.transition_length-length.ensures in
+    count_more 107 _ _ c.loop-t.invariant e.exact e.bound (omega arith)
+    (transitions_more (entry_at net) _ _ (entry_read net _ c.u16_at-action.ensures))
 
 pub returns : goal.returns
 returns c =
-    let f = entry_at c.args.net.now in
-    recount (omega arith) (ap (λ k. transitions_text f k) (le_antisymm c.loop-t.invariant.0 c.loop-t-test.false)) c.loop-t.invariant.1
+    let e = le_antisymm c.loop-t.auto.t-end c.loop-t-test.false in
+    recount (omega arith) (ap (λ k. transitions_text (entry_at c.args.net.now) k) e) c.loop-t.invariant

@@ -1,10 +1,10 @@
 -- `pnml_put::arcs_by` meets its contract. The invariant: the arcs of the first p places are put. Assumes nothing.
 use mathlib.Core.Path.{sym, ap}
-use Prim.Native.Nat.{◌-◌, zero-le}
+use Prim.Native.Nat.{zero-le}
 use native.Mathlib.Nat.{le_antisymm, div-one}
 use native.Mathlib.Omega.{arith}
 use Rattle.pnml_net.specs.Nets.{arcs_by}
-use Rattle.pnml_put.proofs.Arcs.{no_arcs, join_arcs, recast_arcs, by_more, rest_more, by_all, by_gap, rest_gap, gap_test}
+use Rattle.pnml_put.proofs.Arcs.{no_arcs, join_arcs, recast_arcs, by_more, rest_more, by_all, by_gap, rest_gap}
 use Rattle.pnml_put.proofs.arcs_by.Goals as goal
 
 pub loop-p-init : goal.loop-p-init
@@ -19,28 +19,23 @@ returns-then-rest-eq0 c =
     let i = c.loop-p.invariant in
     recast_arcs (omega (arith, i.0, c.requires)) (by_all _ _ _ _ _ _ i.1 c.if-rest-eq0.true i.0) i.2
 
-pub overflow_add-p-then-rest-p : goal.overflow_add-p-then-rest-p
-overflow_add-p-then-rest-p c =
-    let g = gap_test c.loop-p.rest c.loop-p.p c.args.places c.if-rest-p.true in
-    omega (arith, g.1)
+pub overflow_add-p-then-p-places : goal.overflow_add-p-then-p-places
+overflow_add-p-then-p-places c = omega arith
 
-pub loop-p-smaller-then-rest-p : goal.loop-p-smaller-then-rest-p
-loop-p-smaller-then-rest-p c =
-    let g = gap_test c.loop-p.rest c.loop-p.p c.args.places c.if-rest-p.true in
-    omega (arith, g.1)
+pub loop-p-smaller-then-p-places : goal.loop-p-smaller-then-p-places
+loop-p-smaller-then-p-places c = omega arith
 
-pub loop-p-preserved-then-rest-p : goal.loop-p-preserved-then-rest-p
-loop-p-preserved-then-rest-p c =
+pub loop-p-preserved-then-p-places : goal.loop-p-preserved-then-p-places
+loop-p-preserved-then-p-places c =
     let i = c.loop-p.invariant in
-    let g = gap_test _ _ _ c.if-rest-p.true in
-    (g.1, rest_gap _ _ _ i.1, recast_arcs (omega arith) (by_gap _ _ _ _ _ i.1 g.0) i.2)
+    (c.if-p-places.true, rest_gap _ _ _ i.1, recast_arcs (omega arith) (by_gap _ _ _ _ _ i.1 c.if-rest-eq0-2.true) i.2)
 
 pub loop-p-preserved : goal.loop-p-preserved
 loop-p-preserved c =
     let i = c.loop-p.invariant in (
       omega (arith, c.loop-p-test.true),
       rest_more _ _ _ i.1,
-      recast_arcs (omega arith) (by_more _ _ _ _ _ i.1) (join_arcs i.2 c.arc_where-spot.ensures),
+      recast_arcs (omega arith) (by_more _ _ _ _ _ i.1) (join_arcs i.2 c.arc_where-next.ensures),
     )
 
 pub shape_of-room : goal.shape_of-room

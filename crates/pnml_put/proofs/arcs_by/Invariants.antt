@@ -6,7 +6,7 @@ use Rattle.pnml_put.specs.Put.{FitArcs}
 use Rattle.pnml_put.proofs.arcs_by.Given as goal
 
 abbrev pub invariant-loop-p : goal.invariant-loop-p
-invariant-loop-p l = (l.p ≤ l.places) × (l.rest ≡ l.set / 2 ^ l.p) × FitArcs l.p l.initial.room l.room l.at l.arcs (arcs_by l.set l.t l.post l.p) l.next l.count
+invariant-loop-p l = (l.p ≤ l.places) × (l.rest ≡ l.set / 2 ^ l.p) × FitArcs l.p l.initial.room l.room l.fn.spot.at l.fn.spot.arcs (arcs_by l.set l.t l.post l.p) l.next.at l.next.arcs
 
 abbrev pub decreases-loop-p : goal.decreases-loop-p
 decreases-loop-p l = l.places - l.p

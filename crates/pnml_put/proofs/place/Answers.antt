@@ -14,7 +14,7 @@ returns c =
     fit (omega (arith, c.if-room-at-lt71.false, c.requires))
     (recast (omega arith) (place_text _ _)
     (join c.word-at.ensures
-    (join c.two-at.ensures
+    (join c.number-at.ensures
     (join c.word-at-2.ensures
-    (join c.one-at.ensures
+    (join c.number-at-2.ensures
     c.word.ensures)))))

@@ -1,6 +1,5 @@
 -- `pnml_put::places` meets its contract. The invariant: the first i places are put. Assumes nothing.
 use mathlib.Core.Path.{ap}
-use Prim.Native.Nat.{◌-◌, zero-le}
 use native.Mathlib.Nat.{le_antisymm}
 use native.Mathlib.Omega.{arith}
 use Rattle.pnml_shape.specs.Drawing as drawing
@@ -12,18 +11,16 @@ use Rattle.pnml_put.proofs.places.Goals as goal
 
 pub loop-i-init : goal.loop-i-init
 unfolding countdown drawing.places drawing.joined
-loop-i-init c = (zero-le, fit_none _ _ c.requires.0)
+loop-i-init c = fit_none _ _ c.requires.0
 
 pub loop-i-preserved : goal.loop-i-preserved
-loop-i-preserved c = (
-  omega (arith, c.loop-i-test.true),
-  fit_recast (omega arith) (places_more (mark_of c.args.marking) _ _ c.mark.ensures.0)
-      (fit_join c.loop-i.invariant.1 c.place-next.ensures),
-)
+loop-i-preserved c =
+    fit_recast (omega arith) (places_more (mark_of c.args.marking) _ _ c.mark.ensures.0) (fit_join c.loop-i.invariant c.place-next.ensures)
 
 pub shape_of-room : goal.shape_of-room
-shape_of-room c = c.loop-i.invariant.1.kept
+shape_of-room c = c.loop-i.invariant.kept
 
 pub returns : goal.returns
 returns c =
-    fit_recast (omega arith) (ap (λ k. places_text (mark_of c.args.marking) k) (le_antisymm c.loop-i.invariant.0 c.loop-i-test.false)) c.loop-i.invariant.1
+    let e = le_antisymm c.loop-i.auto.i-end c.loop-i-test.false in
+    fit_recast (omega arith) (ap (λ k. places_text (mark_of c.args.marking) k) e) c.loop-i.invariant

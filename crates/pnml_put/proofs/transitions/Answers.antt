@@ -1,6 +1,5 @@
 -- `pnml_put::transitions` meets its contract. The invariant: the first t transitions are put. Assumes nothing.
 use mathlib.Core.Path.{ap}
-use Prim.Native.Nat.{◌-◌, zero-le}
 use native.Mathlib.Nat.{le_antisymm}
 use native.Mathlib.Omega.{arith}
 use Rattle.net.specs.Table.{action_at}
@@ -14,21 +13,19 @@ use Rattle.pnml_put.proofs.transitions.Goals as goal
 
 pub loop-t-init : goal.loop-t-init
 unfolding countdown drawing.transitions drawing.joined
-loop-t-init c = (zero-le, fit_none _ _ c.requires.0)
+loop-t-init c = fit_none _ _ c.requires.0
 
 pub loop-t-preserved : goal.loop-t-preserved
 unfolding action_at
 loop-t-preserved c =
-    let net = c.args.net.now in (
-      omega (arith, c.loop-t-test.true),
-      fit_recast (omega arith) (transitions_more (entry_at net) _ _ (entry_read net _ c.u16_at-action.ensures))
-          (fit_join c.loop-t.invariant.1 c.transition-next.ensures),
-    )
+    let net = c.args.net.now in
+    fit_recast (omega arith) (transitions_more (entry_at net) _ _ (entry_read net _ c.u16_at-action.ensures))
+    (fit_join c.loop-t.invariant c.transition-next.ensures)
 
 pub shape_of-room : goal.shape_of-room
-shape_of-room c = c.loop-t.invariant.1.kept
+shape_of-room c = c.loop-t.invariant.kept
 
 pub returns : goal.returns
 returns c =
-    fit_recast (omega arith) (ap (λ k. transitions_text (entry_at c.args.net.now) k) (le_antisymm c.loop-t.invariant.0 c.loop-t-test.false))
-    c.loop-t.invariant.1
+    let e = le_antisymm c.loop-t.auto.t-end c.loop-t-test.false in
+    fit_recast (omega arith) (ap (λ k. transitions_text (entry_at c.args.net.now) k) e) c.loop-t.invariant

@@ -1,13 +1,7 @@
 -- `pnml_quick::whole_number` meets its contract. Assumes nothing.
 use mathlib.Core.Path.{sym, ◌∙◌}
-use Rattle.pnml_quick.proofs.Numbers.{begun_one, other_low, other_high, nothing}
+use Rattle.pnml_quick.proofs.Numbers.{begun_one, other_low, other_high}
 use Rattle.pnml_quick.proofs.whole_number.Goals as goal
-
-pub returns-then-text-at : goal.returns-then-text-at
-returns-then-text-at c = λ e. nothing (sym c.none.ensures ∙ e)
-
-pub returns-then-other : goal.returns-then-other
-returns-then-other c = λ e. nothing (sym c.none-then-other.ensures ∙ e)
 
 pub worth-requires : goal.worth-requires
 worth-requires c =
@@ -16,4 +10,6 @@ worth-requires c =
 
 pub more-requires : goal.more-requires
 more-requires c =
-    begun_one _ _ _ c.if-text-at.false (sym c.other.ensures ∙ c.if-other.false) c.worth.ensures
+    let h = c.in_ok-b.ensures.lookup.3 in
+    let b = h.1 0 in
+    begun_one c.args.text.now c.args.at c.worth.result h.0 (cc) (cc)

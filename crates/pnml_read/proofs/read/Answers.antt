@@ -1,12 +1,17 @@
 -- `pnml_read::read` meets its contract. Assumes nothing.
-use Rattle.pnml_read.proofs.Answers.{right, opening_answer, opened}
+use mathlib.Core.Path.{◌≡◌}
+use Rattle.pnml_shape.specs.Theorem.{reading}
+use Rattle.pnml_read.specs.Answer.{read_answer, answer_of}
+use Rattle.pnml_read.proofs.Answers.{right, exit, opening_answer}
 use Rattle.pnml_read.proofs.read.Goals as goal
 
-pub returns-then-not-opening : goal.returns-then-not-opening
-returns-then-not-opening c = record { answer = opening_answer _ _ _ c.opening-opening.ensures _ c.if-not-opening.true; exact = right _ }
-
-pub read_opened-requires : goal.read_opened-requires
-read_opened-requires c = opened _ _ _ c.opening-opening.ensures c.if-not-opening.false
+pub returns-in_err-at : goal.returns-in_err-at
+returns-in_err-at c =
+    let room = c.args.room.now in
+    record {
+      answer = exit (λ r. answer_of r room ≡ read_answer (reading c.args.text.now) room) _ _ c.from_residual.ensures.1 (opening_answer _ _ c.in_err-at.ensures _);
+      exact = right _;
+    }
 
 pub returns : goal.returns
 returns c = record { answer = c.read_opened.ensures; exact = right _ }

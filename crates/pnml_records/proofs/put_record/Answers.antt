@@ -8,4 +8,4 @@ pub returns : goal.returns
 returns c =
     let s = c.args in
     record_put s.room.now (s.t * transition_size) s.pre s.post s.action
-    c.put_bytes.ensures c.put_bytes-2.ensures c.put_bytes-3.ensures c.put_bytes-4.ensures
+    c.put_bytes.ensures c.put_bytes-2.ensures (rw c.from.ensures at c.put_bytes-3.ensures) c.put_bytes-4.ensures

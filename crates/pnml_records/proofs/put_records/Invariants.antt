@@ -1,5 +1,4 @@
 -- `pnml_records::put_records` meets its contract. The invariant: the records of the transitions below t stand in the room. Assumes nothing.
-use Prim.Native.Nat.{◌-◌, ◌≤◌}
 use mathlib.Core.Path.{◌≡◌}
 use lib.ListN.{length}
 use lib.Seq.{sets}
@@ -7,7 +6,4 @@ use Rattle.pnml_records.specs.Records.{records_by}
 use Rattle.pnml_records.proofs.put_records.Given as goal
 
 abbrev pub invariant-loop-t : goal.invariant-loop-t
-invariant-loop-t l = (l.t ≤ l.count) × (length l.room ≡ length l.initial.room) × (l.room ≡ sets l.initial.room 0 (records_by l.pre l.post l.action l.t))
-
-abbrev pub decreases-loop-t : goal.decreases-loop-t
-decreases-loop-t l = l.count - l.t
+invariant-loop-t l = (length l.room ≡ length l.initial.room) × (l.room ≡ sets l.initial.room 0 (records_by l.pre l.post l.action l.t))

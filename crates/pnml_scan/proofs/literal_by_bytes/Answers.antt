@@ -1,10 +1,6 @@
 -- `pnml_scan::literal_by_bytes` meets its contract. The invariant: the first i bytes of the word are there. Assumes nothing.
-use Prim.Native.Nat.{◌-◌}
-use Rattle.pnml_scan.proofs.Scan.{spelled_none, spelled_more, spelled_short, spelled_other, spelled_all}
+use Rattle.pnml_scan.proofs.Scan.{spelled_more, spelled_short, spelled_other, spelled_all}
 use Rattle.pnml_scan.proofs.literal_by_bytes.Goals as goal
-
-pub loop-i-init : goal.loop-i-init
-loop-i-init c = spelled_none _ _ _ c.requires
 
 pub returns-then-k-text : goal.returns-then-k-text
 returns-then-k-text c = spelled_short _ _ _ _ c.loop-i.invariant c.loop-i-test.true c.if-k-text.true

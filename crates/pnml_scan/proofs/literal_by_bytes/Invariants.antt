@@ -1,11 +1,6 @@
 -- `pnml_scan::literal_by_bytes` meets its contract. The invariant: the first i bytes of the word are there. Assumes nothing.
-use Prim.Native.Nat.{◌-◌}
-use lib.ListN.{length}
 use Rattle.pnml_scan.proofs.Scan.{Spelled}
 use Rattle.pnml_scan.proofs.literal_by_bytes.Given as goal
 
 abbrev pub invariant-loop-i : goal.invariant-loop-i
 invariant-loop-i l = Spelled l.text l.at l.word l.i
-
-abbrev pub decreases-loop-i : goal.decreases-loop-i
-decreases-loop-i l = length l.word - l.i

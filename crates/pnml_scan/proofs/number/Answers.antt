@@ -2,5 +2,5 @@
 use Rattle.pnml_scan.proofs.Numbers.{value_whole}
 use Rattle.pnml_scan.proofs.number.Goals as goal
 
-pub returns-then-n : goal.returns-then-n
-returns-then-n c = value_whole _ _ _ _ _ _ (c.whole_number-n.ensures c.if-n.true)
+pub returns-in-Some : goal.returns-in-Some
+returns-in-Some c = value_whole _ _ _ _ _ c.in-Some.ensures

@@ -3,14 +3,10 @@ use mathlib.Core.Path.{refl}
 use Rattle.pnml_write.specs.Answer.{found_of, length_of}
 use Rattle.pnml_write.proofs.written_numbers.Goals as goal
 
-pub returns-in-Length : goal.returns-in-Length
+pub returns-in-Ok : goal.returns-in-Ok
 unfolding found_of length_of
-returns-in-Length c = simp c.in-Length.is (refl, refl, refl)
+returns-in-Ok c = simp c.in-Ok.is (refl, refl, refl)
 
-pub returns-in-Short : goal.returns-in-Short
+pub returns-in-Err : goal.returns-in-Err
 unfolding found_of length_of
-returns-in-Short c = simp c.in-Short.is (refl, refl, refl)
-
-pub returns-in-Refused : goal.returns-in-Refused
-unfolding found_of length_of
-returns-in-Refused c = simp c.in-Refused.is c.refused_numbers.ensures
+returns-in-Err c = simp c.in-Err.is c.refused_numbers.ensures

@@ -1,12 +1,7 @@
 -- `sample_bytes::alike` meets its contract. The invariant: the first i bytes are the same. Assumes nothing.
-use Prim.Native.Nat.{◌≤◌, ◌+◌, ◌-◌}
-use mathlib.Core.Path.{◌≡◌}
-use lib.ListN.{length, drop}
+use Rattle.std.proofs.Common.{◌≡◌, ◌+◌, drop}
 use Rattle.sample_bytes.specs.Rooms.{alike}
 use Rattle.sample_bytes.proofs.alike.Given as goal
 
 abbrev pub invariant-loop-i : goal.invariant-loop-i
-invariant-loop-i l = (l.i ≤ length l.a) × (alike l.a l.b ≡ l.i + alike (drop l.i l.a) (drop l.i l.b))
-
-abbrev pub decreases-loop-i : goal.decreases-loop-i
-decreases-loop-i l = length l.a - l.i
+invariant-loop-i l = alike l.a l.b ≡ l.i + alike (drop l.i l.a) (drop l.i l.b)

@@ -5,4 +5,4 @@ use Rattle.sample_labels.proofs.record.Goals as goal
 
 pub returns : goal.returns
 unfolding bytes record_of
-returns c = simp (c.put_bytes.ensures, c.put_number-2.ensures, c.put_number.ensures)
+returns c = simp (c.put_bytes.ensures, c.put_number-2.ensures, c.put_number.ensures, c.from.ensures, c.from-2.ensures)

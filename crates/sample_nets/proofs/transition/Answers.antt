@@ -5,4 +5,4 @@ use Rattle.sample_nets.proofs.transition.Goals as goal
 
 pub returns : goal.returns
 unfolding bytes transition
-returns c = simp (c.put_number-3.ensures, c.put_number-2.ensures, c.put_number.ensures)
+returns c = simp (c.put_number-3.ensures, c.put_number-2.ensures, c.put_number.ensures, c.from.ensures)

@@ -1,12 +1,18 @@
 -- `sample_pnml::tag_ends` meets its contract. Assumes nothing.
-use Rattle.sample_pnml.proofs.Puts.{no_end, short_end, long_end}
+use Rattle.std.proofs.Common.{arith}
+use Rattle.std.proofs.lemmas.Grind.{common_steps}
+use Rattle.std.proofs.lemmas.Bool.Decides.{nat_tests}
+use Rattle.sample_pnml.specs.Built.{tag_ends}
 use Rattle.sample_pnml.proofs.tag_ends.Goals as goal
 
-pub returns-then-text-i-ne62 : goal.returns-then-text-i-ne62
-returns-then-text-i-ne62 c = no_end _ _ c.if-text-i-ne62.true
+pub returns-then-text-i-ne60 : goal.returns-then-text-i-ne60
+unfolding tag_ends
+returns-then-text-i-ne60 c = grind (arith, common_steps, nat_tests)
 
-pub returns-then-i-lt5 : goal.returns-then-i-lt5
-returns-then-i-lt5 c = short_end _ _ c.if-text-i-ne62.false c.if-i-lt5.true
+pub returns-else-text-i-ne60 : goal.returns-else-text-i-ne60
+unfolding tag_ends
+returns-else-text-i-ne60 c = grind (arith, common_steps, nat_tests)
 
-pub returns : goal.returns
-returns c = long_end _ _ c.if-text-i-ne62.false c.if-i-lt5.false
+pub returns-else-text-i-eq62 : goal.returns-else-text-i-eq62
+unfolding tag_ends
+returns-else-text-i-eq62 c = grind (arith, common_steps, nat_tests)

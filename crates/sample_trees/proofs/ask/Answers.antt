@@ -6,4 +6,4 @@ use Rattle.sample_trees.proofs.ask.Goals as goal
 pub returns : goal.returns
 unfolding bytes ask
 returns c =
-    simp (c.put_number-4.ensures, c.put_number-3.ensures, c.put_number-2.ensures, c.put_number.ensures)
+    simp (c.put_number-4.ensures, c.put_number-3.ensures, c.put_number-2.ensures, c.put_number.ensures, c.from.ensures, c.from-2.ensures, c.from-3.ensures)

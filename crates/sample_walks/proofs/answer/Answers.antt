@@ -5,4 +5,4 @@ use Rattle.sample_walks.proofs.answer.Goals as goal
 
 pub returns : goal.returns
 unfolding samples.call_at
-returns c = in_numbers _ _ _ c.answer_numbers.ensures (rw (c.after.ensures, c.call_at.ensures) at c.call-outcome.ensures.0)
+returns c = in_numbers _ _ _ c.answer_numbers.ensures (rw (c.after.ensures, c.call_at.ensures) at c.make-outcome.ensures.0)

@@ -5,4 +5,4 @@ use Rattle.sample_walks.proofs.by_hand.Goals as goal
 
 pub returns : goal.returns
 unfolding samples.by_hand state.empty
-returns c = simp c.new-walk.ensures
+returns c = simp c.new.ensures

@@ -2,9 +2,7 @@
 -- Assumes nothing.
 use Prim.Native.Nat.{ℕ, suc, ◌≤◌, ◌<◌, ◌-◌, ◌+◌}
 use mathlib.Core.Path.{◌≡◌, ◌∙◌, sym}
-use lib.ListN.{replicate}
 use native.Mathlib.Omega.{arith}
-use borrow.Author.Rules.{rules}
 use Rattle.walk.specs.declared.Walk.{Walk}
 use Rattle.walk.specs.Calls.{fire_walk}
 use Rattle.walk.specs.History as history
@@ -21,16 +19,16 @@ unfolding often history.fire_all
 one_more w next n i h e = let d : n - i ≡ suc (n - (i + 1)) = omega arith in simp (d, e)
 
 -- nothing is left
-none_left : (w : Walk) (n i : ℕ) → i ≤ n → n ≤ i → often w (n - i) ≡ w
+none_left : (w : Walk) (n i : ℕ) → n ≤ i → often w (n - i) ≡ w
 unfolding often history.fire_all
-none_left w n i a b = let d : n - i ≡ 0 = omega arith in simp d
+none_left w n i b = let d : n - i ≡ 0 = omega arith in simp d
 
-pub loop-i-init : goal.loop-i-init
-loop-i-init c = (omega arith, all_left _ _)
+pub loop-init : goal.loop-init
+loop-init c = all_left _ _
 
-pub loop-i-preserved : goal.loop-i-preserved
-loop-i-preserved c = (search rules, one_more _ _ _ _ c.loop-i-test.true c.fire-outcome.ensures.1 ∙ c.loop-i.invariant.1)
+pub loop-preserved : goal.loop-preserved
+loop-preserved c = one_more _ _ _ _ c.loop-test.true c.fire-outcome.ensures.1 ∙ c.loop.invariant
 
 pub returns : goal.returns
 unfolding often
-returns c = sym (none_left _ _ _ c.loop-i.invariant.0 c.loop-i-test.false) ∙ c.loop-i.invariant.1
+returns c = sym (none_left _ _ _ c.loop-test.false) ∙ c.loop.invariant

@@ -5,4 +5,4 @@ use Rattle.sample_walks.proofs.full.Goals as goal
 
 pub returns : goal.returns
 unfolding samples.full samples.call_of history.called
-returns c = simp (c.fire_often.ensures, c.call-outcome.ensures.1, c.new.ensures)
+returns c = simp (c.fire_often.ensures, c.make-outcome.ensures.1, c.new.ensures)

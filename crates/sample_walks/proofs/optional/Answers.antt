@@ -3,4 +3,4 @@ use mathlib.Core.Path.{ap}
 use Rattle.sample_walks.proofs.optional.Goals as goal
 
 pub returns : goal.returns
-returns c = ap (λ w. w.optional) c.after-walk.ensures
+returns c = ap (λ w. w.net.optional) c.after-walk.ensures

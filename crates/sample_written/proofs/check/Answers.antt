@@ -10,4 +10,4 @@ pub returns : goal.returns
 returns c =
     let args = c.args in
     c.check.ensures.0
-    ∙ ap (λ (a : List ℕ). check_outcome a args.net.now args.formulas.now args.tree.now) (sided _ _ _ c.requires c.put_bytes.ensures)
+    ∙ ap (λ (a : List ℕ). check_outcome a args.net.now args.formulas.now args.tree.now) (sided _ _ c.copy_from_slice.ensures.after)

@@ -2,4 +2,4 @@
 use Rattle.sample_written.proofs.put_formula.Goals as goal
 
 pub returns : goal.returns
-returns c = simp c.formula-record.ensures at c.put_bytes.ensures
+returns c = simp (c.formula-record.ensures, c.from.ensures) at c.put_bytes.ensures

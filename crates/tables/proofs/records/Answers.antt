@@ -7,6 +7,6 @@ pub returns-then-len-size : goal.returns-then-len-size
 unfolding sized
 returns-then-len-size c = sized_whole _ _ _ _ c.if-len-size.true
 
-pub returns : goal.returns
+pub returns-else-len-size : goal.returns-else-len-size
 unfolding sized
-returns c = unsized_refused _ _ _ _ c.if-len-size.false
+returns-else-len-size c = unsized_refused _ _ _ _ c.if-len-size.false

@@ -1,10 +1,7 @@
 -- `tables::u32_at` meets its contract. Assumes nothing.
-use mathlib.Core.Path.{ap₂, sym, ◌∙◌}
-use Prim.Native.Nat.{ℕ, ◌+◌, ◌*◌}
-use Rattle.tables.proofs.Numbers.{field_split}
+use mathlib.Core.Path.{◌∙◌}
+use Rattle.tables.proofs.Numbers.{field_of_four}
 use Rattle.tables.proofs.u32_at.Goals as goal
 
 pub returns : goal.returns
-returns c =
-    ap₂ (λ (x y : ℕ). x + 65536 * y) c.u16_at-low.ensures c.u16_at-high.ensures
-    ∙ sym (field_split 2 2 c.args.at _)
+returns c = c.from_le_bytes.ensures ∙ field_of_four c.args.at _

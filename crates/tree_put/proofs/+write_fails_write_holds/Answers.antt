@@ -1,13 +1,13 @@
 -- The proof of the cycle of calls {write_fails, write_holds}. The operands are lower: the measure of both is the record's number.
 -- Assumes nothing.
 use mathlib.Core.Path.{◌≡◌, refl, sym, ◌∙◌}
-use Prim.Native.Nat.{ℕ, ◌<◌, ◌-◌}
+use Prim.Native.Nat.{ℕ, ◌<◌, ◌≤◌}
 use native.Mathlib.Omega.{arith}
 use borrow.Author.Tests.{not-true, not-false}
 use Rattle.net.specs.Table.{transitions}
 use Rattle.tree_size.proofs.Records.{inside, operator_read, left_read}
 use Rattle.tree_size.proofs.Turns.{offered_as}
-use Rattle.tree_put.proofs.Places.{fitting, single_writing, first_writing, second_writing, leaf_laid, single_laid, double_laid}
+use Rattle.tree_put.proofs.Places.{put_as, formula_fits, fitting, single_writing, first_writing, second_writing, leaf_laid, single_laid, double_laid}
 use Rattle.tree_put.proofs.Turns.{turn_start, turn_skip, turn_writing, turn_next, turn_end}
 use Rattle.tree_put.proofs.Ways.{holds_0, holds_1, holds_2, holds_3, holds_after, fails_1, fails_3, fails_lower, transition_few, children_roots, children_few}
 use Rattle.tree_put.proofs.+write_fails_write_holds.Goals as goal
@@ -21,6 +21,12 @@ lower-falls h e = omega arith
 pub write_holds-formula_at-record-requires : goal.write_holds-formula_at-record-requires
 write_holds-formula_at-record-requires t c = inside _ _ c.requires.ready.inside
 
+pub write_holds-clean-sequent-requires : goal.write_holds-clean-sequent-requires
+write_holds-clean-sequent-requires t c = formula_fits c.requires
+
+pub write_fails-clean-sequent-requires : goal.write_fails-clean-sequent-requires
+write_fails-clean-sequent-requires t c = formula_fits c.requires
+
 pub write_holds-put-requires : goal.write_holds-put-requires
 write_holds-put-requires t c = fitting c.requires _ _ (omega arith) (omega arith)
 
@@ -28,7 +34,7 @@ pub write_holds-shape_of-room-then-operator-eq0 : goal.write_holds-shape_of-room
 write_holds-shape_of-room-then-operator-eq0 t c = c.put.auto.room
 
 pub write_holds-returns-then-operator-eq0 : goal.write_holds-returns-then-operator-eq0
-write_holds-returns-then-operator-eq0 t c = leaf_laid _ _ _ _ _ _ _ _ _ _ (holds_0 c.requires c.formula_at-record.ensures c.if-operator-eq0.true) c.put.ensures c.requires.ready.sound
+write_holds-returns-then-operator-eq0 t c = leaf_laid _ _ _ _ _ _ _ _ _ _ (holds_0 c.requires c.formula_at-record.ensures c.if-operator-eq0.true) (put_as _ _ _ _ _ _ _ _ c.clean-sequent.ensures c.put.ensures) c.requires.ready.sound
 
 pub write_holds-put-requires-then-operator-eq1 : goal.write_holds-put-requires-then-operator-eq1
 write_holds-put-requires-then-operator-eq1 t c = fitting c.requires _ _ (omega arith) (omega arith)
@@ -50,7 +56,7 @@ write_holds-shape_of-room-then-operator-eq1 t c = c.write_fails.auto.room ∙ c.
 pub write_holds-returns-then-operator-eq1 : goal.write_holds-returns-then-operator-eq1
 write_holds-returns-then-operator-eq1 t c =
     let one = holds_1 c.requires c.formula_at-record.ensures c.if-operator-eq1.true in
-    single_laid _ _ _ _ _ _ _ _ _ _ _ _ one c.put-then-operator-eq1.ensures c.write_fails.ensures
+    single_laid _ _ _ _ _ _ _ _ _ _ _ _ one (put_as _ _ _ _ _ _ _ _ c.clean-sequent.ensures c.put-then-operator-eq1.ensures) c.write_fails.ensures
 
 pub write_holds-put-requires-then-operator-eq2 : goal.write_holds-put-requires-then-operator-eq2
 write_holds-put-requires-then-operator-eq2 t c = fitting c.requires _ _ (omega arith) (omega arith)
@@ -82,7 +88,7 @@ write_holds-shape_of-room-then-operator-eq2 t c = c.write_holds.auto.room ∙ c.
 pub write_holds-returns-then-operator-eq2 : goal.write_holds-returns-then-operator-eq2
 write_holds-returns-then-operator-eq2 t c =
     let two = holds_2 c.requires c.formula_at-record.ensures c.if-operator-eq2.true in
-    double_laid _ _ _ _ _ _ _ _ _ _ _ _ _ _ _ two c.put-then-operator-eq2.ensures c.write_holds-next.ensures c.write_holds.ensures
+    double_laid _ _ _ _ _ _ _ _ _ _ _ _ _ _ _ two (put_as _ _ _ _ _ _ _ _ c.clean-sequent.ensures c.put-then-operator-eq2.ensures) c.write_holds-next.ensures c.write_holds.ensures
 
 pub write_holds-lowest-t-requires : goal.write_holds-lowest-t-requires
 write_holds-lowest-t-requires t c = (c.requires.ready, holds_3 c.requires c.formula_at-record.ensures c.if-operator-eq0.false c.if-operator-eq1.false c.if-operator-eq2.false, c.requires.truth)
@@ -112,7 +118,7 @@ pub write_holds-returns : goal.write_holds-returns
 write_holds-returns t c =
     let op = holds_3 c.requires c.formula_at-record.ensures c.if-operator-eq0.false c.if-operator-eq1.false c.if-operator-eq2.false in
     let one = holds_after c.requires c.formula_at-record.ensures op _ _ c.lowest-t.ensures.0 c.after-after.ensures in
-    single_laid _ _ _ _ _ _ _ _ _ _ _ _ one c.put-2.ensures c.write_holds-2.ensures
+    single_laid _ _ _ _ _ _ _ _ _ _ _ _ one (put_as _ _ _ _ _ _ _ _ c.clean-sequent.ensures c.put-2.ensures) c.write_holds-2.ensures
 
 pub write_fails-formula_at-record-requires : goal.write_fails-formula_at-record-requires
 write_fails-formula_at-record-requires t c = inside _ _ c.requires.ready.inside
@@ -137,7 +143,7 @@ write_fails-shape_of-room-then-operator-eq1 t c = c.write_holds.auto.room ∙ c.
 pub write_fails-returns-then-operator-eq1 : goal.write_fails-returns-then-operator-eq1
 write_fails-returns-then-operator-eq1 t c =
     let one = fails_1 c.requires c.formula_at-record.ensures c.if-operator-eq1.true in
-    single_laid _ _ _ _ _ _ _ _ _ _ _ _ one c.put.ensures c.write_holds.ensures
+    single_laid _ _ _ _ _ _ _ _ _ _ _ _ one (put_as _ _ _ _ _ _ _ _ c.clean-sequent.ensures c.put.ensures) c.write_holds.ensures
 
 pub write_fails-failing-part-requires : goal.write_fails-failing-part-requires
 write_fails-failing-part-requires t c = (c.requires.ready, sym (operator_read _ _ c.formula_at-record.ensures) ∙ c.if-operator-eq2.true, c.requires.truth)
@@ -158,7 +164,7 @@ pub write_fails-shape_of-room-then-operator-eq2 : goal.write_fails-shape_of-room
 write_fails-shape_of-room-then-operator-eq2 t c = c.write_fails.auto.room ∙ c.put-then-operator-eq2.auto.room
 
 pub write_fails-returns-then-operator-eq2 : goal.write_fails-returns-then-operator-eq2
-write_fails-returns-then-operator-eq2 t c = single_laid _ _ _ _ _ _ _ _ _ _ _ _ c.failing-part.ensures.0 c.put-then-operator-eq2.ensures c.write_fails.ensures
+write_fails-returns-then-operator-eq2 t c = single_laid _ _ _ _ _ _ _ _ _ _ _ _ c.failing-part.ensures.0 (put_as _ _ _ _ _ _ _ _ c.clean-sequent.ensures c.put-then-operator-eq2.ensures) c.write_fails.ensures
 
 pub write_fails-tally-n-requires : goal.write_fails-tally-n-requires
 write_fails-tally-n-requires t c = c.requires.ready.sized
@@ -175,45 +181,39 @@ pub write_fails-loop-t-init : goal.write_fails-loop-t-init
 write_fails-loop-t-init t c = turn_start _ _ _ (children_roots _ _ _ _ _ c.formula_at-record.ensures c.tally-n.ensures) c.requires.ready.sound
 
 pub write_fails-offered-requires : goal.write_fails-offered-requires
-unfolding transitions
-write_fails-offered-requires t c = (c.requires.ready.sized, c.loop-t-test.true)
+write_fails-offered-requires t c = (c.requires.ready.sized, omega arith)
 
 pub write_fails-loop-t-preserved-then-not-offered : goal.write_fails-loop-t-preserved-then-not-offered
-unfolding transitions
 write_fails-loop-t-preserved-then-not-offered t c =
+    let h : c.loop-t.t < transitions c.args.tables.now.net.now = omega arith in
     let o = offered_as _ _ _ _ c.formula_at-record.ensures _ c.offered.ensures (not-true _ c.if-not-offered.true-raw) in
-    turn_skip c.loop-t.invariant c.loop-t-test.true o
+    turn_skip c.loop-t.invariant h o
 
 pub write_fails-after-after-requires : goal.write_fails-after-after-requires
-unfolding transitions
-write_fails-after-after-requires t c = (c.requires.ready.sized, c.loop-t-test.true)
+write_fails-after-after-requires t c = (c.requires.ready.sized, omega arith)
 
 pub write_fails-write_fails-next-requires : goal.write_fails-write_fails-next-requires
-unfolding transitions
 write_fails-write_fails-next-requires t c =
+    let h : c.loop-t.t < transitions c.args.tables.now.net.now = omega arith in
     let op = fails_3 c.requires c.formula_at-record.ensures c.if-operator-eq1.false c.if-operator-eq2.false in
     let o = offered_as _ _ _ _ c.formula_at-record.ensures _ c.offered.ensures (not-false _ c.if-not-offered.false-raw) in (
       lower-falls (fails_lower c.requires c.formula_at-record.ensures op) c.decreases,
-      turn_writing c.loop-t.invariant c.loop-t-test.true c.requires op refl c.put-2.auto.room o (left_read _ _ c.formula_at-record.ensures) c.after-after.ensures,
+      turn_writing c.loop-t.invariant h c.requires op refl c.put-2.auto.room o (left_read _ _ c.formula_at-record.ensures) c.after-after.ensures,
     )
 
 pub write_fails-overflow_add-child : goal.write_fails-overflow_add-child
-unfolding transitions
 write_fails-overflow_add-child t c =
+    let h : c.loop-t.t < transitions c.args.tables.now.net.now = omega arith in
     let op = fails_3 c.requires c.formula_at-record.ensures c.if-operator-eq1.false c.if-operator-eq2.false in
     let o = offered_as _ _ _ _ c.formula_at-record.ensures _ c.offered.ensures (not-false _ c.if-not-offered.false-raw) in
-    let v = turn_writing c.loop-t.invariant c.loop-t-test.true c.requires op refl c.put-2.auto.room o (left_read _ _ c.formula_at-record.ensures) c.after-after.ensures in
+    let v = turn_writing c.loop-t.invariant h c.requires op refl c.put-2.auto.room o (left_read _ _ c.formula_at-record.ensures) c.after-after.ensures in
     record { fits = omega (arith, v.own, v.few) }
 
-pub write_fails-overflow_add-t-in-loop-t : goal.write_fails-overflow_add-t-in-loop-t
-unfolding transitions
-write_fails-overflow_add-t-in-loop-t t c = let k = transition_few _ _ c.requires.ready.sized c.loop-t-test.true in record { fits = omega arith }
-
 pub write_fails-loop-t-preserved : goal.write_fails-loop-t-preserved
-unfolding transitions
 write_fails-loop-t-preserved t c =
+    let h : c.loop-t.t < transitions c.args.tables.now.net.now = omega arith in
     let o = offered_as _ _ _ _ c.formula_at-record.ensures _ c.offered.ensures (not-false _ c.if-not-offered.false-raw) in
-    turn_next c.loop-t.invariant c.loop-t-test.true o (left_read _ _ c.formula_at-record.ensures) c.after-after.ensures c.write_fails-next.auto.memo c.write_fails-next.auto.room c.write_fails-next.ensures
+    turn_next c.loop-t.invariant h o (left_read _ _ c.formula_at-record.ensures) c.after-after.ensures c.write_fails-next.auto.memo c.write_fails-next.auto.room c.write_fails-next.ensures
 
 pub write_fails-shape_of-memo : goal.write_fails-shape_of-memo
 write_fails-shape_of-memo t c = c.loop-t.invariant.memo_length
@@ -222,7 +222,7 @@ pub write_fails-shape_of-room : goal.write_fails-shape_of-room
 write_fails-shape_of-room t c = c.loop-t.invariant.room_length ∙ c.put-2.auto.room
 
 pub write_fails-returns : goal.write_fails-returns
-unfolding transitions
 write_fails-returns t c =
+    let h : transitions c.args.tables.now.net.now ≤ c.loop-t.t = omega arith in
     let op = fails_3 c.requires c.formula_at-record.ensures c.if-operator-eq1.false c.if-operator-eq2.false in
-    turn_end c.loop-t.invariant c.loop-t-test.false c.requires op (children_roots _ _ _ _ _ c.formula_at-record.ensures c.tally-n.ensures) c.put-2.ensures
+    turn_end c.loop-t.invariant h c.requires op (children_roots _ _ _ _ _ c.formula_at-record.ensures c.tally-n.ensures) (put_as _ _ _ _ _ _ _ _ c.clean-sequent.ensures c.put-2.ensures)

@@ -1,5 +1,4 @@
 -- The operands are lower: the measure of both is the record's number. Assumes nothing.
-use Prim.Native.Nat.{◌-◌}
 use Rattle.tree_put.proofs.Turns.{Turn}
 use Rattle.tree_put.proofs.+write_fails_write_holds.Given as goal
 
@@ -11,7 +10,4 @@ decreases-write_fails l = l.f
 
 abbrev pub invariant-write_fails-loop-t : goal.invariant-write_fails-loop-t
 invariant-write_fails-loop-t l =
-    Turn l.net l.formulas l.f l.m l.at l.initial.child l.initial.next l.initial.memo l.initial.room l.memo l.room l.child l.next l.t
-
-abbrev pub decreases-write_fails-loop-t : goal.decreases-write_fails-loop-t
-decreases-write_fails-loop-t l = l.count - l.t
+    Turn l.tables.net.now l.tables.formulas.now l.f l.m l.at l.initial.child l.initial.next l.initial.memo l.initial.room l.memo l.room l.child l.next l.t

@@ -2,18 +2,18 @@
 use Rattle.walk.specs.Calls as calls
 use Rattle.walk.proofs.answer_numbers.Goals as goal
 
-pub returns-in-Granted : goal.returns-in-Granted
+pub returns-in_default : goal.returns-in_default
 unfolding calls.answer_of
-returns-in-Granted c = simp c.in-Granted.is c.in_numbers.ensures
+returns-in_default c = simp c.in_default.is c.in_numbers.ensures
 
 pub returns-in-Unloaded : goal.returns-in-Unloaded
-unfolding calls.answer_of
-returns-in-Unloaded c = simp c.in-Unloaded.is c.in_numbers-in-Unloaded.ensures
+unfolding calls.refused_by calls.answer_of
+returns-in-Unloaded c = simp (c.in-Err.is, c.in-Unloaded.is) c.in_numbers-in-Unloaded.ensures
 
-pub returns-in-Refused : goal.returns-in-Refused
-unfolding calls.answer_of
-returns-in-Refused c = simp c.in-Refused.is c.refusal_numbers.ensures
+pub returns-in-Net : goal.returns-in-Net
+unfolding calls.refused_by calls.answer_of
+returns-in-Net c = simp (c.in-Err.is, c.in-Net.is) c.refusal_numbers.ensures
 
 pub returns-in-Full : goal.returns-in-Full
-unfolding calls.answer_of
-returns-in-Full c = simp c.in-Full.is c.in_numbers-in-Full.ensures
+unfolding calls.refused_by calls.answer_of
+returns-in-Full c = simp (c.in-Err.is, c.in-Full.is) c.in_numbers-in-Full.ensures

@@ -6,5 +6,4 @@ use Rattle.nodes.proofs.read.ask_of.Goals as goal
 
 pub returns : goal.returns
 unfolding nodes.ask_of
-returns c =
-    ask-by c.u64_at-marking.ensures c.u16_at-formula.ensures (field_one 10 _) (field_one 11 _)
+returns c = ask-by c.u64_at.ensures c.u16_at.ensures (field_one 10 _) (field_one 11 _)

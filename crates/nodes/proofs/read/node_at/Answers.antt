@@ -6,5 +6,4 @@ use Rattle.nodes.proofs.read.node_at.Goals as goal
 
 pub returns : goal.returns
 unfolding nodes.node_at
-returns c =
-    node-by c.sequent_at-sequent.ensures c.u32_at-parent.ensures c.u32_at-first.ensures (field_one _ _) (field_one _ _) (field_one _ _)
+returns c = node-by c.sequent_at.ensures c.u32_at.ensures c.u32_at-2.ensures (field_one _ _) (field_one _ _) (field_one _ _)

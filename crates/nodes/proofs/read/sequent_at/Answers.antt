@@ -7,5 +7,4 @@ use Rattle.nodes.proofs.read.sequent_at.Goals as goal
 pub returns : goal.returns
 unfolding nodes.sequent_at
 returns c =
-    sequent-by c.u64_at-marking.ensures c.u64_at-anchor.ensures c.u64_at-kept.ensures c.u16_at-formula.ensures (field_one _ _) (field_one _ _)
-    (field_one _ _)
+    sequent-by c.u64_at.ensures c.u64_at-2.ensures c.u64_at-3.ensures c.u16_at.ensures (field_one _ _) (field_one _ _) (field_one _ _)

@@ -1,6 +1,5 @@
 -- `samples_compacted::calls::check` is safe: the line fits the buffer. Assumes nothing.
-use mathlib.Core.Path.{refl, sym}
-use lib.Seq.{length-take-le}
+use mathlib.Core.Path.{refl}
 use Rattle.texts.proofs.Line.{whole}
 use Rattle.samples_compacted.proofs.calls.check.Goals as goal
 

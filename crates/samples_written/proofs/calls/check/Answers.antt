@@ -1,6 +1,5 @@
 -- `samples_written::calls::check` is safe and ends: the line fits the buffer. Assumes nothing.
-use mathlib.Core.Path.{refl, sym}
-use lib.Seq.{length-take-le}
+use mathlib.Core.Path.{refl}
 use Rattle.texts.proofs.Line.{whole}
 use Rattle.samples_written.proofs.calls.check.Goals as goal
 

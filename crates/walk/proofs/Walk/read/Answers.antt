@@ -1,9 +1,13 @@
 -- `walk::Walk::read` meets its contract. Assumes nothing.
-use Rattle.walk.proofs.Walks.{unloaded_by, loaded_by, read_refused, read_granted}
+use mathlib.Core.Path.{sym, ◌∙◌}
+use Rattle.walk.specs.Calls as calls
+use Rattle.walk.proofs.Walks.{read_refused, read_granted}
 use Rattle.walk.proofs.Walk.read.Goals as goal
 
-pub returns-then-not-net_good-state_good : goal.returns-then-not-net_good-state_good
-returns-then-not-net_good-state_good c = read_refused _ (unloaded_by _ c.net_good.ensures c.state_good.ensures c.if-not-net_good-state_good.true-raw)
+pub returns-then-loaded : goal.returns-then-loaded
+unfolding calls.answer_of calls.told
+returns-then-loaded c = read_granted _ (sym c.loaded.ensures ∙ c.if-loaded.true)
 
-pub returns : goal.returns
-returns c = read_granted _ (loaded_by _ c.net_good.ensures c.state_good.ensures c.if-not-net_good-state_good.false-raw)
+pub returns-else-loaded : goal.returns-else-loaded
+unfolding calls.refused_by calls.answer_of calls.told
+returns-else-loaded c = read_refused _ (sym c.loaded.ensures ∙ c.if-loaded.false)

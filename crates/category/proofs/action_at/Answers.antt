@@ -1,7 +1,0 @@
--- `category::action_at` meets its contract. Assumes nothing.
-use Rattle.category.specs.Records.{action_at}
-use Rattle.category.proofs.action_at.Goals as goal
-
-pub returns : goal.returns
-unfolding action_at
-returns c = c.u16_at.ensures

@@ -1,8 +1,0 @@
--- `category::kind_at` meets its contract. Assumes nothing.
-use mathlib.Core.Path.{refl}
-use Rattle.category.specs.Records.{kind_at}
-use Rattle.category.proofs.kind_at.Goals as goal
-
-pub returns : goal.returns
-unfolding kind_at
-returns c = refl

@@ -1,7 +1,0 @@
--- `category::own_good` meets its contract. Assumes nothing.
-use Rattle.category.specs.Faults.{own_good}
-use Rattle.category.proofs.own_good.Goals as goal
-
-pub returns : goal.returns
-unfolding own_good
-returns c = simp (c.text_good.ensures, c.lender_at.ensures)

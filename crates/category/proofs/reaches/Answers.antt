@@ -1,7 +1,0 @@
--- `category::reaches` meets its contract. Assumes nothing.
-use Rattle.category.specs.Labels.{reaches}
-use Rattle.category.proofs.reaches.Goals as goal
-
-pub returns : goal.returns
-unfolding reaches
-returns c = simp c.action_at.ensures

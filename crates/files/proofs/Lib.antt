@@ -1,2 +1,0 @@
--- The laws that the proofs of `files` cite.
-pub mod Held
