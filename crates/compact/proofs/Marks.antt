@@ -4,7 +4,6 @@ use mathlib.Core.Bool.{Bool, true, false, ◌&&◌, ◌||◌}
 use mathlib.Core.Logic.{◌⊎◌, inl, inr}
 use mathlib.Core.List.{List}
 use Prim.Native.Nat.{ℕ, zero, suc, ◌+◌, ◌-◌, ◌<◌}
-use native.Mathlib.Numerals.{add-one}
 use native.Mathlib.Omega.{arith}
 use lib.ListN.{length, get_or, set, replicate, length-set, length-replicate}
 use lib.Seq.{get_or-set_same, get_or-set_other}
@@ -90,13 +89,13 @@ module _ (F : List ℕ) (good : Formulas F) (i : ℕ) (h : i < formulas F) where
 
 module _ (F : List ℕ) (f : ℕ) where
   -- record f is marked
-  pub pass_start : f < 256 → Marks (known F f 0) (set (replicate 256 false) f true)
+  pub pass_start : f < 256 → {n : ℕ} → n ≡ 0 → Marks (known F f n) (set (replicate 256 false) f true)
   unfolding known
-  pass_start h =
-      marks_as
+  pass_start h {n} z =
+      subst (λ (j : ℕ). Marks (known F f j) (set (replicate 256 false) f true)) (sym z) (marks_as
       (mark_more (λ _. false) true f {l = replicate 256 false} (record { whole = length-replicate 256 false; each = λ k _. clear 256 k }) h
       (sym (or_true (get_or (replicate 256 false) f false))))
-      (λ k _. by k (passed (eqb f k)))
+      (λ k _. by k (passed (eqb f k))))
     where
       clear : (n k : ℕ) → get_or (replicate n false) k false ≡ false
       clear zero k = refl
@@ -111,10 +110,11 @@ module _ (F : List ℕ) (f : ℕ) where
       by k (inl e) = let q : f ≡ k = eqb-true f k e in e ∙ sym (eq-eqb k f (sym q))
       by k (inr e) = e ∙ sym (ne_eqb k f (λ q. eqb-false f k e (sym q)))
 
-  -- the operands of one more
-  pub pass_next : (n : ℕ) {l r : List Bool} → Marks (known F f n) l → Marked F (f - n) l r → Marks (known F f (n + 1)) r
+  -- the operands of one more, record i
+  pub pass_next : (n i : ℕ) {k : ℕ} → k ≡ suc n → i ≡ f - n → {l r : List Bool} → Marks (known F f n) l → Marked F i l r → Marks (known F f k) r
   unfolding Marked known
-  pass_next n {r = r} e m = subst (λ (k : ℕ). Marks (known F f k) r) (sym (add-one n)) (m (known F f n) e)
+  pass_next n i q z {l} {r} e m =
+      subst (λ (j : ℕ). Marks (known F f j) r) (sym q) (subst (λ (j : ℕ). Marked F j l r) z m (known F f n) e)
 
   -- all are looked at
   pub pass_done : (n : ℕ) {l : List Bool} → Marks (known F f n) l → n ≡ f + 1 → Marks (reached F f) l

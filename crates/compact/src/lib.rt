@@ -67,8 +67,8 @@ fn reached(formulas: &[u8], f: usize) -> [bool; 256]
 {
     let mut marks = [false; 256];
     marks[f] = true;
-    for n in 0..f + 1 {
-        mark_operands(formulas, f - n, &mut marks);
+    for i in (0..f + 1).rev() {
+        mark_operands(formulas, i, &mut marks);
     }
     marks
 }
@@ -81,14 +81,14 @@ fn numbers_of(marks: &[bool; 256]) -> [u16; 256]
 {
     let mut numbers = [0u16; 256];
     let mut n: u16 = 0;
-    for i in 0..256 {
-        numbers[i] = n;
+    for (i, number) in numbers.iter_mut().enumerate() {
+        *number = n;
         n += u16::from(marks[i]);
     }
     numbers
 }
 
-// The new number of an operand; a field that the operator lacks stays.
+// The new number of an operand; a field that the operator lacks stays. A flag beside a number, no `Option`: the lacking field is a number too, and is put.
 fn new_operand(numbers: &[u16; 256], has: bool, operand: u16) -> u16
     requires { operand < 256 }
     ensures { result ≡ tables.operand_by (serving.at numbers.now) has operand }
@@ -119,7 +119,8 @@ fn put_record(formulas: &[u8], i: usize, numbers: &[u16; 256], room: &mut [u8], 
     pctl::put_formula(room, n, new);
 }
 
-// Puts the marked records, one after another.
+// Puts the marked records, one after another. n is counted by hand: it is `numbers[i]` only where the numbers are those of the marks, which the
+// contract does not ask.
 fn put_formulas(formulas: &[u8], marks: &[bool; 256], numbers: &[u16; 256], room: &mut [u8])
     requires { serving.Formulas formulas.now × (count_below (serving.is_marked marks.now) (records.formulas formulas.now) * records.formula_size ≤ length room.old) }
     ensures { room.new ≡ sets room.old 0 (laid (serving.kept_by formulas.now marks.now numbers.now) (records.formulas formulas.now)) }

@@ -1,7 +1,7 @@
 // The line that the program `treecheck` writes, put into a buffer.
 #![tactic(auto)]
 
-ghost use Rattle.std.specs.Prelude.{Err};
+ghost use Rattle.std.specs.Prelude.{◌≡◌, Err};
 ghost use Rattle.checker.specs.Outcomes as outcomes;
 ghost use Rattle.texts.specs.Line as texts;
 ghost use Rattle.line.specs.Line as lines;
@@ -15,6 +15,20 @@ pub enum Input {
     Net,
     Formula,
     Tree,
+}
+
+impl Input {
+    // Its name in the working folder and in the line that it gets where it is not read.
+    pub fn name(self) -> &'static [u8]
+        ensures { result.now ≡ lines.name_of self }
+    {
+        match self {
+            Input::Ask => b"ASK",
+            Input::Net => b"NET",
+            Input::Formula => b"FORMULA",
+            Input::Tree => b"TREE",
+        }
+    }
 }
 
 // The line of an accepted tree.
@@ -55,12 +69,7 @@ pub fn write_line(v: Result<usize, Rejection>, line: &mut [u8; 40]) -> usize
 pub fn unread_line(file: Input, line: &mut [u8; 40]) -> usize
     ensures { texts.Put line.old line.new 0 (lines.unread_line file) result }
 {
-    match file {
-        Input::Ask => texts::put_unread(line, b"ASK"),
-        Input::Net => texts::put_unread(line, b"NET"),
-        Input::Formula => texts::put_unread(line, b"FORMULA"),
-        Input::Tree => texts::put_unread(line, b"TREE"),
-    }
+    texts::put_unread(line, file.name())
 }
 
 // Writes the line that the four tables get at the start of the buffer, whose other bytes stay, and answers its length.

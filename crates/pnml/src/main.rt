@@ -21,20 +21,14 @@ const FILE: usize = 1000001;
 // Room for the records of 64 transitions, which are the most that a text can have.
 const RECORDS: usize = 1536;
 
-// Writes the file that an argument names, made or overwritten, and answers whether it is whole. A path that is not UTF-8 is no file's, as std
-// opens none there.
-fn write_argument(rt: HostRuntime, i: usize, bytes: &[u8]) -> bool {
+// Writes the file that an argument names, made or overwritten: none where it is not whole. A path that is not UTF-8 is no file's, as std opens
+// none there.
+fn write_argument(rt: HostRuntime, i: usize, bytes: &[u8]) -> Option<()> {
     let mut path = [0u8; 4096];
-    let Some(size) = files::argument(&rt, i, &mut path) else {
-        return false;
-    };
-    let Ok(path) = str::from_utf8(&path[..size]) else {
-        return false;
-    };
-    let Ok(mut file) = fs::create(&rt, path) else {
-        return false;
-    };
-    file.write_all(bytes).is_ok()
+    let size = files::argument(&rt, i, &mut path)?;
+    let path = str::from_utf8(&path[..size]).ok()?;
+    let mut file = fs::create(&rt, path).ok()?;
+    file.write_all(bytes).ok()
 }
 
 // Tells that a file is not read or not written.
@@ -61,49 +55,49 @@ fn tell_written(rt: HostRuntime, ask: &[u8], net: &[u8]) -> io::Result<()> {
     rt.write_all(&room[..size])
 }
 
-// Reads the ask and the net, and then writes the text.
-fn write(rt: HostRuntime) -> io::Result<()> {
+// Reads the ask and the net, and then tells the text.
+fn write(rt: HostRuntime) -> Result<io::Result<()>, Trouble> {
     let mut ask: [u8; files::ROOM] = files::zeros();
-    let Some(a) = files::read_argument(&rt, 2, &mut ask) else {
-        return tell_trouble(rt, Trouble::UnreadAsk);
-    };
+    let a = files::read_argument(&rt, 2, &mut ask).ok_or(Trouble::UnreadAsk)?;
     let mut net: [u8; files::ROOM] = files::zeros();
-    let Some(n) = files::read_argument(&rt, 3, &mut net) else {
-        return tell_trouble(rt, Trouble::UnreadNet);
-    };
-    tell_written(rt, &ask[..a], &net[..n])
+    let n = files::read_argument(&rt, 3, &mut net).ok_or(Trouble::UnreadNet)?;
+    Ok(tell_written(rt, &ask[..a], &net[..n]))
 }
 
-// Whether the records of a text that was read, if it was, stand in the file NET.
-fn keep(rt: HostRuntime, r: Result<Found, ReadRefusal>, records: &[u8]) -> bool
+// Writes the records of a text that was read, if it was, to the file NET.
+fn keep(rt: HostRuntime, r: Result<Found, ReadRefusal>, records: &[u8]) -> Result<(), Trouble>
     requires { (reads.found_of r).length ≤ length records.now }
 {
     let Ok(found) = r else {
-        return true;
+        return Ok(());
     };
     let size = found.length;
-    write_argument(rt, 3, &records[..size])
+    write_argument(rt, 3, &records[..size]).ok_or(Trouble::UnwrittenNet)
 }
 
 // Tells what reading a text found, once the file NET has its records.
-fn tell_read(rt: HostRuntime, text: &[u8]) -> io::Result<()> {
+fn tell_read(rt: HostRuntime, text: &[u8]) -> Result<io::Result<()>, Trouble> {
     let mut records: [u8; RECORDS] = files::zeros();
     let r = pnml_read::read(text, &mut records);
-    if !keep(rt, r, &records) {
-        return tell_trouble(rt, Trouble::UnwrittenNet);
-    }
+    keep(rt, r, &records)?;
     let mut line = [0u8; 40];
     let size = pnml_line::read_line(r, &mut line);
-    rt.write_all(&line[..size])
+    Ok(rt.write_all(&line[..size]))
 }
 
 // Reads the file, and then its text.
-fn read(rt: HostRuntime) -> io::Result<()> {
+fn read(rt: HostRuntime) -> Result<io::Result<()>, Trouble> {
     let mut text: [u8; FILE] = files::zeros();
-    let Some(n) = files::read_argument(&rt, 2, &mut text) else {
-        return tell_trouble(rt, Trouble::UnreadFile);
-    };
+    let n = files::read_argument(&rt, 2, &mut text).ok_or(Trouble::UnreadFile)?;
     tell_read(rt, &text[..n])
+}
+
+// What was told, or else the trouble, which is told then.
+fn finish(rt: HostRuntime, told: Result<io::Result<()>, Trouble>) -> io::Result<()> {
+    match told {
+        Ok(done) => done,
+        Err(trouble) => tell_trouble(rt, trouble),
+    }
 }
 
 // Whether there are arguments 0, the program's own name, to 3, and no more.
@@ -120,9 +114,9 @@ fn main(rt: HostRuntime) -> io::Result<()> {
     };
     let three = has_three(rt);
     if three && word == b"write".as_slice() {
-        write(rt)
+        finish(rt, write(rt))
     } else if three && word == b"read".as_slice() {
-        read(rt)
+        finish(rt, read(rt))
     } else {
         let _ = rt
             .stderr()

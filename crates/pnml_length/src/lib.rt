@@ -83,6 +83,7 @@ fn arc_where(tally: Tally, wanted: bool, t: usize, post: bool, p: usize) -> Tall
 }
 
 // The length of the arcs between a transition and the places of a set, of which 8 that are not in it are passed at once: so no `for` over the places.
+// It counts what `pnml_put::arcs_by` puts: one function for both would take the room where none is lent.
 fn arcs_by(tally: Tally, set: u64, t: usize, post: bool, places: usize) -> Tally
     requires { (tally.length ≤ 990000) × (tally.arcs ≤ 9100) × (t < 100) × (places ≤ 64) }
     ensures { counts.CountArcs 64 tally.length tally.arcs (nets.arcs_by set t post places) result.length result.arcs }

@@ -27,12 +27,7 @@ fn ending(text: &[u8], at: usize, word: &[u8], from: usize) -> bool
     requires { (at + length word.now ≤ length text.now) × (from ≤ length word.now) }
     ensures { result ≡ true → serving.From text.now at word.now from (length word.now) }
 {
-    for i in from..word.len() {
-        if text[at + i] != word[i] {
-            return false;
-        }
-    }
-    true
+    (from..word.len()).all(|i| text[at + i] == word[i])
 }
 
 // The same, four of them first.
@@ -77,6 +72,7 @@ pub struct Number {
 }
 
 // Whether a byte is no digit.
+#[tactic(auto, unfolding(crate::specs::Serving::other))]
 fn other(b: u8) -> bool
     ensures { result ≡ serving.other b }
 {

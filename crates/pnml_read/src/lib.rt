@@ -7,6 +7,7 @@ ghost use Rattle.pnml_scan.specs.Serving as scans;
 ghost use Rattle.pnml_read.specs.Answer as answers;
 
 use pnml_scan::Left;
+use pnml_state::Entries;
 
 // What a text gives: how many places, their marking, and the bytes of the records.
 #[derive(Clone, Copy)]
@@ -47,6 +48,7 @@ pub struct Numbers {
 }
 
 // Whether a number is 1 to 64.
+#[tactic(auto, unfolding(crate::specs::Answer::few))]
 fn few(n: usize) -> bool
     ensures { result ≡ answers.few n }
 {
@@ -58,10 +60,12 @@ fn read_opened(text: &[u8], at: usize, room: &mut [u8]) -> Result<Found, ReadRef
     requires { scans.Opened text.now (Ok at) }
     ensures { answers.answer_of result room.new ≡ answers.read_answer (theorem.reading text.now) room.old }
 {
-    let mut pre = [0u64; 64];
-    let mut post = [0u64; 64];
-    let mut action = [0u32; 64];
-    let read = pnml_turn::read_elements(text, at, &mut pre, &mut post, &mut action)?;
+    let mut kept = Entries {
+        pre: [0; 64],
+        post: [0; 64],
+        action: [0; 64],
+    };
+    let read = pnml_turn::read_elements(text, at, &mut kept)?;
     if !few(read.places) {
         return Err(ReadRefusal::Places);
     }
@@ -72,7 +76,7 @@ fn read_opened(text: &[u8], at: usize, room: &mut [u8]) -> Result<Found, ReadRef
     if room.len() < length {
         return Err(ReadRefusal::Short);
     }
-    pnml_records::put_records(room, read.transitions, &pre, &post, &action);
+    pnml_records::put_records(room, read.transitions, &kept);
     Ok(Found {
         places: read.places as u32,
         marking: read.marking,

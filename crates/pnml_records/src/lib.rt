@@ -7,6 +7,8 @@ ghost use Rattle.net.specs.Table.{transition_size};
 ghost use Rattle.pnml_net.specs.Nets.{record_bytes};
 ghost use Rattle.pnml_records.specs.Records.{records_by};
 
+use pnml_state::Entries;
+
 // Puts the record of a transition with these sets and entry: its action, and 65,536 more where it is optional.
 fn put_record(room: &mut [u8], t: usize, pre: u64, post: u64, action: u32)
     requires { t * transition_size + transition_size ≤ length room.old }
@@ -20,17 +22,11 @@ fn put_record(room: &mut [u8], t: usize, pre: u64, post: u64, action: u32)
 }
 
 // Puts the records of the first transitions.
-pub fn put_records<'a>(
-    room: &mut [u8],
-    count: usize,
-    pre: &'a [u64; 64],
-    post: &'a [u64; 64],
-    action: &'a [u32; 64],
-)
+pub fn put_records(room: &mut [u8], count: usize, kept: &Entries)
     requires { (count ≤ 64) × (count * transition_size ≤ length room.old) }
-    ensures { room.new ≡ sets room.old 0 (records_by pre.now post.now action.now count) }
+    ensures { room.new ≡ sets room.old 0 (records_by kept.now.pre kept.now.post kept.now.action count) }
 {
     for t in 0..count {
-        put_record(room, t, pre[t], post[t], action[t]);
+        put_record(room, t, kept.pre[t], kept.post[t], kept.action[t]);
     }
 }

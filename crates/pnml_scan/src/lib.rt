@@ -9,12 +9,13 @@ ghost use Rattle.pnml_scan.specs.Serving as serving;
 pub use pnml_quick::Number;
 
 // Where a text leaves the shape: the offset of the first byte that is not there.
+// Text and offset stay two parameters: each part answers the next offset, and a cursor with this invariant would be taken apart in each clause: no plainer.
 #[derive(Clone, Copy)]
 pub struct Left {
     pub at: usize,
 }
 
-// These bytes, one by one: the offset after them.
+// These bytes, one by one: the offset after them. A `for`, whose invariant has `at + i` within the text: in a `find` that sum might wrap.
 #[cold]
 #[inline(never)]
 fn literal_by_bytes(text: &[u8], at: usize, word: &[u8]) -> Result<usize, Left>
@@ -45,6 +46,7 @@ pub fn literal(text: &[u8], at: usize, word: &[u8]) -> Result<usize, Left>
 }
 
 // Space, tab, CR or LF.
+#[tactic(auto, unfolding(pnml_shape::specs::Shape::white))]
 fn white(b: u8) -> bool
     ensures { result ≡ shape.white b }
 {
@@ -79,8 +81,8 @@ fn possible(v: usize, lo: usize, hi: usize) -> bool
         if v == 0 {
             return false;
         }
-        low = low / 10;
-        high = high / 10;
+        low /= 10;
+        high /= 10;
     }
     false
 }
@@ -251,7 +253,8 @@ fn mark_opens(text: &[u8], at: usize) -> bool
     (text[at] == b'<') & (text[at + 1] == b't')
 }
 
-// That mark and the white space after it, where it begins. The value is the action, with the mark 65,536 more.
+// That mark and the white space after it, where it begins. The value is the action, with the mark 65,536 more: one number, as `entry_by` of
+// pnml_net and the drawing's lists have it.
 fn mark(text: &[u8], at: usize, action: usize) -> Result<Number, Left>
     requires { (at ≤ length text.now) × (action ≤ 65535) }
     ensures { serving.MarkRead text.now at action result }
@@ -267,7 +270,7 @@ fn mark(text: &[u8], at: usize, action: usize) -> Result<Number, Left>
     })
 }
 
-// All after a transition's action, tag by tag. The value is the action, for an optional transition 65,536 more.
+// All after a transition's action, tag by tag. The value is the action, for an optional transition 65,536 more: one number, as in `mark`.
 fn ending_by_tags(text: &[u8], at: usize, action: usize) -> Result<Number, Left>
     requires { (at ≤ length text.now) × (action ≤ 65535) }
     ensures { serving.EndRead text.now at action result }

@@ -4,6 +4,14 @@
 ghost use Rattle.std.specs.Prelude.{◌≡◌};
 ghost use Rattle.pnml_state.specs.Serving as serving;
 
+// What is kept of the first 64 transitions: of each, by its number, the places of the arcs into it and out of it, and its entry.
+#[derive(Clone, Copy)]
+pub struct Entries {
+    pub pre: [u64; 64],
+    pub post: [u64; 64],
+    pub action: [u32; 64],
+}
+
 // The marking with one place more.
 pub fn mark(marking: u64, places: usize, mark: usize) -> u64
     ensures { result ≡ serving.marked marking places mark }

@@ -1,6 +1,5 @@
 -- The state after a turn. Assumes nothing.
 use mathlib.Core.Path.{◌≡◌, refl, sym, ap, ◌∙◌, subst}
-use mathlib.Core.Bool.{not}
 use mathlib.Core.List.{List, [], ◌∷◌}
 use Prim.Native.Nat.{ℕ, suc, ◌+◌, ◌≤◌, ◌<◌}
 use native.Mathlib.Numerals.{add-one}
@@ -12,11 +11,12 @@ use Rattle.std.specs.Prelude.{Result, Ok, Err}
 use Rattle.pnml_scan.specs.declared.ArcRead.{ArcRead}
 use Rattle.pnml_scan.specs.declared.Left.{Left}
 use Rattle.pnml_scan.specs.Serving.{Number, arc_of}
-use Rattle.pnml_state.specs.Serving.{Holds, marked, noted, joined_to}
+use Rattle.pnml_state.specs.Serving.{Holds, marked, noted}
 use Rattle.pnml_state.proofs.State.{holds_place, holds_transition, holds_arc}
 use Rattle.pnml_turn.specs.declared.Turn.{Turn}
 use Rattle.pnml_turn.specs.declared.Turn.TheVariants.{Place, Transition, Join, End}
 use Rattle.pnml_turn.specs.declared.State.{State}
+use Rattle.pnml_state.specs.declared.Entries.{Entries}
 use Rattle.pnml_turn.specs.Serving.{turned, Sane, Alone, Fits, Seen, Put, Read, Ahead, Further, ReadAll, ReadPart, placed_state, transition_state}
 
 -- with no arc the number of places does not matter to the least arc
@@ -94,32 +94,6 @@ module _ (t : List ℕ) (s : State) (pre post action : List ℕ) where
         further = let y = h.sane.0 in omega arith;
       })
 
-  -- an arc
-  pub arc_moved : (a : ArcRead) → Ahead t s (Ok (Join a)) pre post action → (r : State) (l o : List ℕ) → Put s a r pre l post o → Further t s r l o action
-  unfolding Sane turned
-  arc_moved a h r l o q =
-      subst (λ x. Further t s x l o action) (sym q.state)
-      (record {
-        read = record {
-          drawing = add_arc h.drawing (arc_of a.arc);
-          fits = subst (λ x. Fits (add_arc h.drawing (arc_of a.arc)) s.places s.transitions (s.arcs + 1) x) (sym q.comes)
-              (fits_arc h.drawing _ _ _ _ (arc_of a.arc) h.fits);
-          holds = subst (λ x. Holds (add_arc h.drawing (arc_of a.arc)) s.marking x o action) (sym q.into)
-              (subst (λ x. Holds (add_arc h.drawing (arc_of a.arc)) s.marking (joined_to pre (not a.arc.post) a.arc.transition a.arc.place) x action) (sym q.out)
-              (holds_arc h.drawing s.marking (arc_of a.arc) pre post action (let p = h.sane.2 in let z = h.fits.places in omega arith) h.holds));
-          same = h.same;
-          bounds = let b = h.bounds in let y = h.sane in
-              record {
-                inside = y.1;
-                places = let x = b.places in let w = y.0 in omega arith;
-                transitions = let x = b.transitions in let w = y.0 in omega arith;
-                arcs = let x = b.arcs in let w = y.0 in omega arith;
-                none = λ z. let w = y.3 in absurd (omega arith);
-              };
-        };
-        further = let w = h.sane.0 in omega arith;
-      })
-
   -- the end, and a stop
   pub end_moved : Ahead t s (Ok End) pre post action → ReadAll t s.places s.transitions s.marking pre post action
   unfolding turned
@@ -160,3 +134,30 @@ module _ (t : List ℕ) (s : State) (pre post action : List ℕ) where
   pub arc_named : (a : ArcRead) → Ahead t s (Ok (Join a)) pre post action → Named a
   unfolding Sane
   arc_named a h = let n = h.sane in (n.2, n.3, h.bounds.transitions, h.bounds.arcs, n.0, n.1)
+
+-- an arc
+module _ (t : List ℕ) (s : State) (before later : Entries) where
+  pub arc_moved : (a : ArcRead) → Ahead t s (Ok (Join a)) before.pre before.post before.action → (r : State) → Put s a r before later
+      → Further t s r later.pre later.post later.action
+  unfolding Sane turned
+  arc_moved a h r q =
+      subst (λ x. Further t s x later.pre later.post later.action) (sym q.state)
+      (record {
+        read = record {
+          drawing = add_arc h.drawing (arc_of a.arc);
+          fits = subst (λ x. Fits (add_arc h.drawing (arc_of a.arc)) s.places s.transitions (s.arcs + 1) x) (sym q.comes)
+              (fits_arc h.drawing _ _ _ _ (arc_of a.arc) h.fits);
+          holds = rw (q.into, q.out, q.rest)
+              (holds_arc h.drawing s.marking (arc_of a.arc) before.pre before.post before.action (let p = h.sane.2 in let z = h.fits.places in omega arith) h.holds);
+          same = h.same;
+          bounds = let b = h.bounds in let y = h.sane in
+              record {
+                inside = y.1;
+                places = let x = b.places in let w = y.0 in omega arith;
+                transitions = let x = b.transitions in let w = y.0 in omega arith;
+                arcs = let x = b.arcs in let w = y.0 in omega arith;
+                none = λ z. let w = y.3 in absurd (omega arith);
+              };
+        };
+        further = let w = h.sane.0 in omega arith;
+      })

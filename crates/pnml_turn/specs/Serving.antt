@@ -9,6 +9,7 @@ use Rattle.pnml_scan.specs.declared.Arc.{Arc as CodeArc}
 use Rattle.pnml_scan.specs.declared.ArcRead.{ArcRead}
 use Rattle.pnml_scan.specs.declared.Left.{Left}
 use Rattle.pnml_scan.specs.Serving.{arc_of}
+use Rattle.pnml_state.specs.declared.Entries.{Entries}
 use Rattle.pnml_state.specs.Serving.{Holds, joined_to}
 use Rattle.pnml_turn.specs.declared.Turn.{Turn}
 use Rattle.pnml_turn.specs.declared.Turn.TheVariants.{Place, Transition, Join, End}
@@ -67,13 +68,14 @@ abbrev pub joined_state : State → CodeArc → (at : ℕ) → State
 joined_state s l k =
     record { at = k; places = s.places; transitions = s.transitions; arcs = s.arcs + 1; marking = s.marking; least = l }
 
--- an arc was put: the state and the tables after it
-pub record Put (s : State) (a : ArcRead) (r : State) (pre l post o : List ℕ) : Type 0 where
+-- an arc was put: the state and the entries after it
+pub record Put (s : State) (a : ArcRead) (r : State) (before later : Entries) : Type 0 where
   pub following : CodeArc
   pub comes : arc_of following ≡ after s.places (arc_of a.arc)
   pub state : r ≡ joined_state s following a.at
-  pub into : l ≡ joined_to pre (not a.arc.post) a.arc.transition a.arc.place
-  pub out : o ≡ joined_to post a.arc.post a.arc.transition a.arc.place
+  pub into : later.pre ≡ joined_to before.pre (not a.arc.post) a.arc.transition a.arc.place
+  pub out : later.post ≡ joined_to before.post a.arc.post a.arc.transition a.arc.place
+  pub rest : later.action ≡ before.action
 
 -- the offset is inside the text, and no more elements stand before it than bytes; without transitions there are no arcs
 pub record Bounds (t : List ℕ) (s : State) : Type 0 where

@@ -8,6 +8,7 @@ ghost use Rattle.pnml_scan.specs.Serving as scans;
 ghost use Rattle.pnml_turn.specs.Serving as serving;
 
 use pnml_scan::{Arc, ArcRead, Left, Number};
+use pnml_state::Entries;
 
 // One turn: a place with its mark, a transition with its entry, an arc, or the end of the text.
 #[derive(Clone, Copy)]
@@ -66,6 +67,7 @@ fn closing_turn(text: &[u8], at: usize) -> Result<Turn, Left>
 }
 
 // Whether an arc can still follow.
+#[tactic(auto, unfolding(pnml_shape::specs::Machine::arc_open))]
 fn arc_open(places: usize, transitions: usize, least: Arc) -> bool
     ensures { result ≡ machine.arc_open places transitions (scans.arc_of least) }
 {
@@ -153,27 +155,24 @@ impl State {
     }
 }
 
-// The state after an arc; the tables keep it.
-fn put_arc(s: State, read: ArcRead, pre: &mut [u64; 64], post: &mut [u64; 64]) -> State
+// The state after an arc; the entries keep it.
+fn put_arc(s: State, read: ArcRead, kept: &mut Entries) -> State
     requires { (read.arc.place < s.places) × (read.arc.transition + 1 < 2 ^ 64) × (s.arcs + 1 < 2 ^ 64) }
-    ensures { serving.Put s read result pre.old pre.new post.old post.new }
+    ensures { serving.Put s read result kept.old kept.new }
 {
     let arc = read.arc;
-    pnml_state::join(pre, !arc.post, arc.transition, arc.place);
-    pnml_state::join(post, arc.post, arc.transition, arc.place);
+    if arc.post {
+        pnml_state::join(&mut kept.post, true, arc.transition, arc.place);
+    } else {
+        pnml_state::join(&mut kept.pre, true, arc.transition, arc.place);
+    }
     s.join(pnml_scan::arc_after(s.places, arc), read.at)
 }
 
-// One element further, or nothing at the end of the text. The tables keep what was read.
-fn advance(
-    text: &[u8],
-    s: State,
-    pre: &mut [u64; 64],
-    post: &mut [u64; 64],
-    action: &mut [u32; 64],
-) -> Result<Option<State>, Left>
-    requires { serving.Read text.now s pre.old post.old action.old }
-    ensures { serving.Moved text.now s result pre.new post.new action.new }
+// One element further, or nothing at the end of the text. The entries keep what was read.
+fn advance(text: &[u8], s: State, kept: &mut Entries) -> Result<Option<State>, Left>
+    requires { serving.Read text.now s kept.old.pre kept.old.post kept.old.action }
+    ensures { serving.Moved text.now s result kept.new.pre kept.new.post kept.new.action }
 {
     let turn = next_turn(text, &s)?;
     match turn {
@@ -182,10 +181,10 @@ fn advance(
             Ok(Some(s.place(marking, place.at)))
         }
         Turn::Transition(transition) => {
-            pnml_state::note(action, s.transitions, transition.value as u32);
+            pnml_state::note(&mut kept.action, s.transitions, transition.value as u32);
             Ok(Some(s.transition(transition.at)))
         }
-        Turn::Join(arc) => Ok(Some(put_arc(s, arc, pre, post))),
+        Turn::Join(arc) => Ok(Some(put_arc(s, arc, kept))),
         Turn::End => Ok(None),
     }
 }
@@ -218,21 +217,15 @@ fn begin(at: usize) -> State
     }
 }
 
-// Reads the elements of a text, which follow its opening, and its end, or answers where it leaves the shape. The lent tables, all zero, get the
+// Reads the elements of a text, which follow its opening, and its end, or answers where it leaves the shape. The lent entries, all zero, get the
 // sets and the entries of at most 64 transitions.
-pub fn read_elements(
-    text: &[u8],
-    at: usize,
-    pre: &mut [u64; 64],
-    post: &mut [u64; 64],
-    action: &mut [u32; 64],
-) -> Result<Reading, Left>
+pub fn read_elements(text: &[u8], at: usize, kept: &mut Entries) -> Result<Reading, Left>
     requires opened { scans.Opened text.now (Ok at) }
-    requires pre_value { (pre.old ≡ serving.no_entry) × (post.old ≡ serving.no_entry) × (action.old ≡ serving.no_entry) }
-    ensures { serving.ReadWhole text.now result pre.new post.new action.new }
+    requires pre_value { (kept.old.pre ≡ serving.no_entry) × (kept.old.post ≡ serving.no_entry) × (kept.old.action ≡ serving.no_entry) }
+    ensures { serving.ReadWhole text.now result kept.new.pre kept.new.post kept.new.action }
 {
     let mut s = begin(at);
-    while let Some(next) = advance(text, s, pre, post, action)? {
+    while let Some(next) = advance(text, s, kept)? {
         s = next;
     }
     Ok(Reading {

@@ -1,7 +1,8 @@
 -- What a room holds, byte by byte. Assumes nothing.
-use Rattle.std.proofs.Common.{ℕ, zero, suc, ◌+◌, ◌*◌, ◌%◌, ◌≤◌, ◌<◌, ◌≡◌, refl, Bool, true, false, cond, List, [], ◌∷◌, length, take, drop, get_or, eqb, leb, arith, add-one, drop_of_length-le, drop-cons, min}
+use Rattle.std.proofs.Common.{ℕ, zero, suc, ◌+◌, ◌*◌, ◌%◌, ◌≤◌, ◌<◌, ◌≡◌, refl, Option, Some, None, MatchOption, Bool, true, false, cond, List, [], ◌∷◌, length, take, drop, get_or, eqb, leb, arith, add-one, drop_of_length-le, drop-cons, min}
 use Rattle.std.proofs.Math.Seq.{take-length}
 use Rattle.std.specs.List.{count_by}
+use Rattle.std.specs.Option.{unwrap_or}
 use Rattle.std.proofs.lemmas.List.Sums.{count_by_more_yes, count_by_more_no}
 use borrow.Author.Tests.{eq-eqb, ne_eqb, leb-true, leb-false}
 use Rattle.sample_bytes.specs.Rooms.{count, alike, checksum}
@@ -56,18 +57,31 @@ alike_end a b i h = by (leb (length b) i) refl
     by true e = let d = drop_of_length-le b {i = i} (leb-true (length b) i e) in rw d (alike_none (drop i a))
     by false e = let f = leb-false (length b) i e in let d = drop_of_length-le a {i = i} (omega arith) in rw d
 
--- from the first i on: one more, the first that differ, the end
+-- the first i are the same
 
-pub same_more : (a b : List ℕ) (i : ℕ) → i < min (length a) (length b) → get_or a i 0 ≡ get_or b i 0
-    → alike a b ≡ i + alike (drop i a) (drop i b) → alike a b ≡ (i + 1) + alike (drop (i + 1) a) (drop (i + 1) b)
-same_more a b i h e p = let m = alike_more a b i (omega arith) (omega arith) e in omega (arith, p, m)
+pub same_to : (a b : List ℕ) (i : ℕ) → i ≤ min (length a) (length b) → ((k : ℕ) → k < i → get_or a k 0 ≡ get_or b k 0)
+    → alike a b ≡ i + alike (drop i a) (drop i b)
+same_to a b zero h f = omega arith
+same_to a b (suc i) h f =
+    let m = alike_more a b i (omega arith) (omega arith) (f i (omega arith)) in
+    let p = same_to a b i (omega arith) (λ k l. f k (omega arith)) in
+    let q = rw add-one at m in
+    omega (arith, p, q)
 
-pub same_stop : (a b : List ℕ) (i : ℕ) → i < min (length a) (length b) → (get_or a i 0 ≡ get_or b i 0 → ⊥)
-    → alike a b ≡ i + alike (drop i a) (drop i b) → i ≡ alike a b
-same_stop a b i h e p = let m = alike_stop a b i (omega arith) (omega arith) e in omega (arith, p, m)
+-- what a search for the first that differs answers
 
-pub same_end : (a b : List ℕ) (i : ℕ) → min (length a) (length b) ≤ i → alike a b ≡ i + alike (drop i a) (drop i b) → i ≡ alike a b
-same_end a b i h p = let m = alike_end a b i h in omega (arith, p, m)
+pub alike_by : (a b : List ℕ) (n : ℕ) (r : Option ℕ) → n ≡ min (length a) (length b)
+    → MatchOption r ((k : ℕ) → 0 ≤ k → k < n → get_or a k 0 ≡ get_or b k 0)
+    (λ i. (0 ≤ i) × (i < n) × (get_or a i 0 ≡ get_or b i 0 → ⊥) × ((k : ℕ) → 0 ≤ k → k < i → get_or a k 0 ≡ get_or b k 0))
+    → unwrap_or r n ≡ alike a b
+alike_by a b n None e h =
+    let p = same_to a b n (omega (arith, e)) (λ k l. h k (omega arith) l) in
+    let m = alike_end a b n (omega (arith, e)) in
+    omega (arith, p, m)
+alike_by a b n (Some i) e h =
+    let p = same_to a b i (omega (arith, e, h.1)) (λ k l. h.3 k (omega arith) l) in
+    let m = alike_stop a b i (omega (arith, e, h.1)) (omega (arith, e, h.1)) h.2 in
+    omega (arith, p, m)
 
 -- ---- all of it
 

@@ -39,17 +39,12 @@ pub fn count(room: &[u8], b: u8) -> usize
     room.iter().filter(|byte| **byte == b).count()
 }
 
-// How many of the first bytes of two rooms are the same. By an index, since what std says of `take_while` does not say why it stopped.
+// How many of the first bytes of two rooms are the same.
 pub fn alike(a: &[u8], b: &[u8]) -> usize
     ensures { result ≡ rooms.alike a.now b.now }
 {
     let most = a.len().min(b.len());
-    for i in 0..most {
-        if a[i] != b[i] {
-            return i;
-        }
-    }
-    most
+    (0..most).find(|&i| a[i] != b[i]).unwrap_or(most)
 }
 
 // A sum in which each byte counts by its place.

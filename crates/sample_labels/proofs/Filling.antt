@@ -1,9 +1,8 @@
 -- A file written record by record. Assumes nothing.
-use Prim.Native.Nat.{ℕ, ◌+◌, ◌*◌, ◌%◌, ◌≤◌}
+use Prim.Native.Nat.{ℕ, ◌+◌, ◌*◌, ◌%◌}
 use mathlib.Core.Path.{◌≡◌}
 use mathlib.Core.List.{List, [], ◌∷◌}
 use native.Mathlib.Numerals.{add-one}
-use native.Mathlib.Omega.{arith}
 use lib.Seq.{sets}
 use Rattle.sample_labels.specs.Files.{record_of, filled}
 
@@ -12,7 +11,3 @@ pub filled_next : (file before after : List ℕ) (i : ℕ) → before ≡ filled
     → after ≡ sets before (i * 32) (record_of i 0 0 ((65 + i % 26) ∷ [])) → after ≡ filled (i + 1) file
 unfolding filled
 filled_next file before after i b a = rw (add-one, a, b)
-
--- all of them
-pub filled_all : (file after : List ℕ) (i n : ℕ) → i ≤ n → n ≤ i → after ≡ filled i file → after ≡ filled n file
-filled_all file after i n a b e = let d : i ≡ n = omega arith in rw d at e

@@ -1,22 +1,16 @@
 -- Records that are put one after the other. Assumes nothing.
 use Prim.Native.Nat.{ℕ, zero, suc, ◌+◌, ◌*◌}
 use mathlib.Core.Path.{◌≡◌, refl, ap, ◌∙◌}
-use mathlib.Core.List.{List, ◌++◌, append-nil}
+use mathlib.Core.List.{List, ◌++◌}
 use native.Mathlib.Numerals.{add-one}
 use native.Mathlib.Omega.{arith}
-use lib.ListN.{length, length-append, drop_of_length-le}
+use lib.ListN.{length, length-append}
 use lib.Seq.{sets}
-use Rattle.stores.proofs.Stores.{after, sets_front}
+use Rattle.stores.proofs.Stores.{after}
 use Rattle.sample_bytes.specs.Bytes.{bytes}
 use Rattle.sample_trees.specs.Tables.{formula}
+use Rattle.sample_trees.proofs.Writing.{all_stored}
 use Rattle.sample_written.specs.Tables.{row, table, ands, chain}
-
--- a list stored over all of another
-pub all_stored : (l vs : List ℕ) → length vs ≡ length l → sets l 0 vs ≡ vs
-all_stored l vs e =
-    sets_front l vs (omega arith)
-    ∙ ap (λ (ws : List ℕ). vs ++ ws) (drop_of_length-le l {i = length vs} (omega arith))
-    ∙ append-nil vs
 
 formula_length : (operator left right action : ℕ) → length (formula operator left right action) ≡ 8
 unfolding bytes formula

@@ -16,7 +16,7 @@ use Rattle.std.proofs.Common.{Result}
 use Rattle.tree_write.specs.Result.{found_of, written_of, answer_of}
 use Rattle.nodes.specs.Nodes.{node_size}
 use Rattle.nodes.specs.Written.{with_side}
-use Rattle.sample_written.proofs.Building.{all_stored}
+use Rattle.sample_trees.proofs.Writing.{all_stored}
 use Rattle.sample_written.specs.Told.{filled, kept, writer}
 
 -- ---- the pattern

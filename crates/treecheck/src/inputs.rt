@@ -18,11 +18,11 @@ fn read_one(rt: HostRuntime, named: bool, i: usize, name: &[u8], buf: &mut [u8])
 pub fn read_input(rt: HostRuntime, file: Input, named: bool, buf: &mut [u8]) -> Result<usize, Input>
     ensures { MatchResult result (λ n. FileRead buf.new (Some n)) (λ unread. unread ≡ file) }
 {
-    let size = match file {
-        Input::Ask => read_one(rt, named, 1, b"ASK", buf),
-        Input::Net => read_one(rt, named, 2, b"NET", buf),
-        Input::Formula => read_one(rt, named, 3, b"FORMULA", buf),
-        Input::Tree => read_one(rt, named, 4, b"TREE", buf),
+    let argument = match file {
+        Input::Ask => 1,
+        Input::Net => 2,
+        Input::Formula => 3,
+        Input::Tree => 4,
     };
-    size.ok_or(file)
+    read_one(rt, named, argument, file.name(), buf).ok_or(file)
 }

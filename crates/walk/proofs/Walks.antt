@@ -1,10 +1,10 @@
 -- What each call answers and leaves: what each way through the code has found fixes the answer and the walk. Assumes nothing.
 use mathlib.Core.Path.{◌≡◌, refl, sym, ap, ap₂, ◌∙◌}
-use mathlib.Core.Bool.{Bool, true, false, cond, not, ◌&&◌}
+use mathlib.Core.Bool.{Bool, true, false, cond, ◌&&◌}
 use mathlib.Core.List.{List}
 use Prim.Native.Nat.{ℕ, ◌+◌, ◌≤◌, ◌<◌}
 use lib.Dec.{eqb, ltb, leb}
-use borrow.Author.Tests.{lt-ltb, le-ltb, not-true, not-false, leb-true}
+use borrow.Author.Tests.{lt-ltb, le-ltb, leb-true}
 use Rattle.bitset.specs.Sets.{within}
 use Rattle.tables.specs.Below.{every_below}
 use Rattle.tables.proofs.Tests.{and_left, and_right, and_intro, if_true, if_false}
@@ -21,14 +21,6 @@ use Rattle.walk.specs.declared.WalkRefusal.{WalkRefusal}
 use Rattle.walk.specs.declared.WalkRefusal.TheVariants.{Net as InNet}
 use Rattle.walk.specs.State.{started_at, moved_to, sets_within, transitions_good, net_good, state_good, loaded}
 use Rattle.walk.specs.Calls.{refused_by, granted, load_answer, load_walk, fire_answer, fire_walk, loaded_answer, reset_walk, read_marking, read_count, read_next}
-
--- ---- tests: what a test in the code says of the definition that it computes
-
-pub denied : {r b : Bool} → r ≡ b → not r ≡ true → b ≡ false
-denied {r} e h = sym e ∙ not-true r h
-
-pub shown : {r b : Bool} → r ≡ b → not r ≡ false → b ≡ true
-shown {r} e h = sym e ∙ not-false r h
 
 -- ---- load
 

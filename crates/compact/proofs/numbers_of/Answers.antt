@@ -1,4 +1,4 @@
--- `compact::numbers-of` meets its contract. The invariant: the numbers below i are found, and n marks are counted. Assumes nothing.
+-- `compact::numbers_of` meets its contract. The invariant: the numbers below i are found, and n marks are counted. Assumes nothing.
 use mathlib.Core.Path.{refl}
 use mathlib.Core.Bool.{false}
 use lib.ListN.{get_or}

@@ -1,19 +1,20 @@
 -- `line::unread_line` meets its contract. Assumes nothing.
-use Rattle.line.specs.Line.{unread_line}
+use native.Mathlib.Omega.{arith}
+use Rattle.std.proofs.Common.{◌≤◌, length}
+use Rattle.line.specs.declared.Input.{Input}
+use Rattle.line.specs.declared.Input.TheVariants.{Ask, Net, Formula, Tree}
+use Rattle.line.specs.Line.{name_of, unread_line}
 use Rattle.line.proofs.unread_line.Goals as goal
 
-pub returns-in-Ask : goal.returns-in-Ask
-unfolding unread_line
-returns-in-Ask c = simp c.in-Ask.is c.put_unread.ensures
+short : (file : Input) → length (name_of file) ≤ 8
+short Ask = omega arith
+short Net = omega arith
+short Formula = omega arith
+short Tree = omega arith
 
-pub returns-in-Net : goal.returns-in-Net
-unfolding unread_line
-returns-in-Net c = simp c.in-Net.is c.put_unread-in-Net.ensures
+pub put_unread-requires : goal.put_unread-requires
+put_unread-requires c = let e = c.name.ensures in rw e (short c.args.file)
 
-pub returns-in-Formula : goal.returns-in-Formula
+pub returns : goal.returns
 unfolding unread_line
-returns-in-Formula c = simp c.in-Formula.is c.put_unread-in-Formula.ensures
-
-pub returns-in-Tree : goal.returns-in-Tree
-unfolding unread_line
-returns-in-Tree c = simp c.in-Tree.is c.put_unread-in-Tree.ensures
+returns c = rw c.name.ensures at c.put_unread.ensures

@@ -21,4 +21,4 @@ returns c =
     let s = c.args in
     let l = c.loop-t in
     let all : l.t ≡ s.count = omega (arith, c.loop-t-test.false) in
-    l.invariant.1 ∙ ap (λ (k : ℕ). sets s.room.now 0 (records_by s.pre.now s.post.now s.action.now k)) all
+    l.invariant.1 ∙ ap (λ (k : ℕ). sets s.room.now 0 (records_by s.kept.now.pre s.kept.now.post s.kept.now.action k)) all

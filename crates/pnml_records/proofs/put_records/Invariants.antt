@@ -6,4 +6,4 @@ use Rattle.pnml_records.specs.Records.{records_by}
 use Rattle.pnml_records.proofs.put_records.Given as goal
 
 abbrev pub invariant-loop-t : goal.invariant-loop-t
-invariant-loop-t l = (length l.room ≡ length l.initial.room) × (l.room ≡ sets l.initial.room 0 (records_by l.pre l.post l.action l.t))
+invariant-loop-t l = (length l.room ≡ length l.initial.room) × (l.room ≡ sets l.initial.room 0 (records_by l.kept.pre l.kept.post l.kept.action l.t))

@@ -8,7 +8,7 @@ use Rattle.pnml_turn.proofs.advance.Goals as goal
 pub returns-in_err-turn : goal.returns-in_err-turn
 returns-in_err-turn c =
     let a = c.args in
-    exit (λ r. Moved a.text.now a.s r a.pre.now a.post.now a.action.now) _ _ c.from_residual.ensures.1
+    exit (λ r. Moved a.text.now a.s r a.kept.now.pre a.kept.now.post a.kept.now.action) _ _ c.from_residual.ensures.1
     (stop_moved _ _ _ _ _ _ (ahead _ _ _ _ _ _ c.requires c.in_err-turn.ensures))
 
 pub overflow_cast-transition : goal.overflow_cast-transition
@@ -29,7 +29,7 @@ returns-in-Transition c =
 
 pub returns-in-Join : goal.returns-in-Join
 returns-in-Join c =
-    arc_moved _ _ _ _ _ _ (ahead_of _ _ _ _ _ _ _ c.in-Join.is c.requires c.in_ok-turn.ensures) _ _ _ c.put_arc.ensures
+    arc_moved _ _ c.args.kept.now _ _ (ahead_of _ _ _ _ _ _ _ c.in-Join.is c.requires c.in_ok-turn.ensures) _ c.put_arc.ensures
 
 pub returns-in-End : goal.returns-in-End
 returns-in-End c = end_moved _ _ _ _ _ (ahead_of _ _ _ _ _ _ _ c.in-End.is c.requires c.in_ok-turn.ensures)

@@ -5,7 +5,7 @@ use Rattle.pnml_turn.specs.Serving.{Read}
 use Rattle.pnml_turn.proofs.read_elements.Given as goal
 
 abbrev pub invariant-loop-next : goal.invariant-loop-next
-invariant-loop-next l = Read l.text l.s l.pre l.post l.action
+invariant-loop-next l = Read l.text l.s l.kept.pre l.kept.post l.kept.action
 
 abbrev pub decreases-loop-next : goal.decreases-loop-next
 decreases-loop-next l = length l.text - l.s.at

@@ -25,68 +25,74 @@ step_falls h e = omega arith
 pub evaluate-formula_at-r-requires : goal.evaluate-formula_at-r-requires
 evaluate-formula_at-r-requires t c = inside _ _ c.requires.inside
 
-pub evaluate-returns-then-op-eq0 : goal.evaluate-returns-then-op-eq0
-evaluate-returns-then-op-eq0 t c =
-    found_true _ _ c.requires.lower _ c.requires.inside _ _ c.formula_at-r.ensures _ c.if-op-eq0.true c.requires.sound
+pub evaluate-returns-in-0 : goal.evaluate-returns-in-0
+evaluate-returns-in-0 t c =
+    found_true _ _ c.requires.lower _ c.requires.inside _ _ c.formula_at-r.ensures _ c.in-0.is c.requires.sound
     c.over.ensures.0 c.over.ensures.1
 
 pub evaluate-evaluate_steps-requires : goal.evaluate-evaluate_steps-requires
 evaluate-evaluate_steps-requires t c = (
   subst (λ (j : ℕ). 3 * c.args.f < j) c.decreases (omega arith),
-  (c.requires, sym (operator_read _ _ c.formula_at-r.ensures) ∙ c.if-op-eq3.true),
+  (c.requires, sym (operator_read _ _ c.formula_at-r.ensures) ∙ c.in-3.is),
 )
 
-pub evaluate-shape_of-memo-then-op-eq3 : goal.evaluate-shape_of-memo-then-op-eq3
-evaluate-shape_of-memo-then-op-eq3 t c = c.evaluate_steps.auto.memo
+pub evaluate-shape_of-memo-in-3 : goal.evaluate-shape_of-memo-in-3
+evaluate-shape_of-memo-in-3 t c = c.evaluate_steps.auto.memo
 
-pub evaluate-returns-then-op-eq3 : goal.evaluate-returns-then-op-eq3
-evaluate-returns-then-op-eq3 t c = c.evaluate_steps.ensures
+pub evaluate-returns-in-3 : goal.evaluate-returns-in-3
+evaluate-returns-in-3 t c = c.evaluate_steps.ensures
 
 pub evaluate-measure-left-requires : goal.evaluate-measure-left-requires
 evaluate-measure-left-requires t c = (
-  left-falls (left_below _ _ c.formula_at-r.ensures c.requires.lower c.requires.inside c.if-op-eq0.false) c.decreases,
-  ready_left c.requires _ refl c.requires.sound c.formula_at-r.ensures c.if-op-eq0.false,
+  left-falls (left_below _ _ c.formula_at-r.ensures c.requires.lower c.requires.inside (λ z. grind arith)) c.decreases,
+  ready_left c.requires _ refl c.requires.sound c.formula_at-r.ensures (λ z. grind arith),
 )
 
-pub evaluate-over-requires-then-op-eq1 : goal.evaluate-over-requires-then-op-eq1
-evaluate-over-requires-then-op-eq1 t c = capped_most _ c.measure-left.ensures.1
+pub evaluate-over-requires-in-1 : goal.evaluate-over-requires-in-1
+evaluate-over-requires-in-1 t c = capped_most _ c.measure-left.ensures.1
 
-pub evaluate-shape_of-memo-then-op-eq1 : goal.evaluate-shape_of-memo-then-op-eq1
-evaluate-shape_of-memo-then-op-eq1 t c = c.measure-left.auto.memo
+pub evaluate-shape_of-memo-in-1 : goal.evaluate-shape_of-memo-in-1
+evaluate-shape_of-memo-in-1 t c = c.measure-left.auto.memo
 
-pub evaluate-returns-then-op-eq1 : goal.evaluate-returns-then-op-eq1
-evaluate-returns-then-op-eq1 t c =
+pub evaluate-returns-in-1 : goal.evaluate-returns-in-1
+evaluate-returns-in-1 t c =
     found_not _ _ c.requires.lower _ c.requires.inside _ _ c.formula_at-r.ensures _ c.measure-left.ensures
-    c.if-op-eq1.true c.over-then-op-eq1.ensures.0 c.over-then-op-eq1.ensures.1
+    c.in-1.is c.over-in-1.ensures.0 c.over-in-1.ensures.1
+
+pub evaluate-measure-left-requires-in_default : goal.evaluate-measure-left-requires-in_default
+evaluate-measure-left-requires-in_default t c = (
+  left-falls (left_below _ _ c.formula_at-r.ensures c.requires.lower c.requires.inside (λ z. grind arith)) c.decreases,
+  ready_left c.requires _ refl c.requires.sound c.formula_at-r.ensures (λ z. grind arith),
+)
 
 pub evaluate-over-requires-then-not-left : goal.evaluate-over-requires-then-not-left
-evaluate-over-requires-then-not-left t c = capped_most _ c.measure-left.ensures.1
+evaluate-over-requires-then-not-left t c = capped_most _ c.measure-left-in_default.ensures.1
 
 pub evaluate-shape_of-memo-then-not-left : goal.evaluate-shape_of-memo-then-not-left
-evaluate-shape_of-memo-then-not-left t c = c.measure-left.auto.memo
+evaluate-shape_of-memo-then-not-left t c = c.measure-left-in_default.auto.memo
 
 pub evaluate-returns-then-not-left : goal.evaluate-returns-then-not-left
 evaluate-returns-then-not-left t c =
-    found_left _ _ c.requires.lower _ c.requires.inside _ _ c.formula_at-r.ensures _ c.measure-left.ensures
-    (is_and _ _ c.formula_at-r.ensures c.requires.lower c.requires.inside c.requires.until-free c.if-op-eq0.false c.if-op-eq3.false c.if-op-eq1.false) (not-true _ c.if-not-left.true) c.over-then-not-left.ensures.0 c.over-then-not-left.ensures.1
+    found_left _ _ c.requires.lower _ c.requires.inside _ _ c.formula_at-r.ensures _ c.measure-left-in_default.ensures
+    (is_and _ _ c.formula_at-r.ensures c.requires.lower c.requires.inside c.requires.until-free (λ z. grind arith) (λ z. grind arith) (λ z. grind arith)) (not-true _ c.if-not-left.true) c.over-then-not-left.ensures.0 c.over-then-not-left.ensures.1
 
 pub evaluate-measure-right-requires : goal.evaluate-measure-right-requires
 evaluate-measure-right-requires t c =
-    let a = is_and _ _ c.formula_at-r.ensures c.requires.lower c.requires.inside c.requires.until-free c.if-op-eq0.false c.if-op-eq3.false c.if-op-eq1.false in (
+    let a = is_and _ _ c.formula_at-r.ensures c.requires.lower c.requires.inside c.requires.until-free (λ z. grind arith) (λ z. grind arith) (λ z. grind arith) in (
       left-falls (right_below _ _ c.formula_at-r.ensures c.requires.lower c.requires.inside a) c.decreases,
-      ready_right c.requires _ c.measure-left.auto.memo c.measure-left.ensures.2 c.formula_at-r.ensures a,
+      ready_right c.requires _ c.measure-left-in_default.auto.memo c.measure-left-in_default.ensures.2 c.formula_at-r.ensures a,
     )
 
 pub evaluate-both-requires : goal.evaluate-both-requires
-evaluate-both-requires t c = (capped_most _ c.measure-left.ensures.1, capped_most _ c.measure-right.ensures.1)
+evaluate-both-requires t c = (capped_most _ c.measure-left-in_default.ensures.1, capped_most _ c.measure-right.ensures.1)
 
-pub evaluate-shape_of-memo : goal.evaluate-shape_of-memo
-evaluate-shape_of-memo t c = c.measure-right.auto.memo ∙ c.measure-left.auto.memo
+pub evaluate-shape_of-memo-else-not-left : goal.evaluate-shape_of-memo-else-not-left
+evaluate-shape_of-memo-else-not-left t c = c.measure-right.auto.memo ∙ c.measure-left-in_default.auto.memo
 
-pub evaluate-returns : goal.evaluate-returns
-evaluate-returns t c =
-    found-both _ _ c.requires.lower _ c.requires.inside _ _ c.formula_at-r.ensures _ c.measure-left.ensures _ c.measure-right.ensures
-    (is_and _ _ c.formula_at-r.ensures c.requires.lower c.requires.inside c.requires.until-free c.if-op-eq0.false c.if-op-eq3.false c.if-op-eq1.false) (not-false _ c.if-not-left.false) c.both.ensures.0 c.both.ensures.1
+pub evaluate-returns-else-not-left : goal.evaluate-returns-else-not-left
+evaluate-returns-else-not-left t c =
+    found-both _ _ c.requires.lower _ c.requires.inside _ _ c.formula_at-r.ensures _ c.measure-left-in_default.ensures _ c.measure-right.ensures
+    (is_and _ _ c.formula_at-r.ensures c.requires.lower c.requires.inside c.requires.until-free (λ z. grind arith) (λ z. grind arith) (λ z. grind arith)) (not-false _ c.if-not-left.false) c.both.ensures.0 c.both.ensures.1
 
 pub evaluate_steps-formula_at-r-requires : goal.evaluate_steps-formula_at-r-requires
 evaluate_steps-formula_at-r-requires t c = inside _ _ c.requires.0.inside
