@@ -1,11 +1,11 @@
 -- One faultless file: each action has one record, and its text is not empty. Assumes nothing.
 use mathlib.Core.Path.{◌≡◌, refl, sym, ap, ap₂, subst}
-use mathlib.Core.Bool.{true, ◌&&◌}
+use mathlib.Core.Bool.{Bool, true, false, ◌&&◌}
 use mathlib.Core.List.{List}
 use Prim.Native.Nat.{ℕ, ◌<◌}
 use lib.ListN.{length, take, drop}
 use lib.Dec.{eqb, leb, ltb}
-use borrow.Author.Tests.{ltb-true, leb-true, eqb-true, eq-eqb, not-false}
+use borrow.Author.Tests.{ltb-true, lt-ltb, leb-true, eqb-true, eq-eqb, not-false}
 use Rattle.tables.specs.Lists.{first}
 use Rattle.tables.specs.Below.{some_below}
 use Rattle.tables.proofs.Below.{some_is}
@@ -15,7 +15,7 @@ use Rattle.category.specs.Faults.{ascends, text_is, text_good, own_good, record_
 use Rattle.category.specs.Labels.{own_text, has, record_of, text_size, text_of}
 use Rattle.category.proofs.Ascent.{Rising, rising}
 use Rattle.category.proofs.Search.{record_is, record_first}
-use Rattle.category.proofs.Sources.{offset_in, size_in, length_text}
+use Rattle.category.proofs.Sources.{offset_in, size_in, length_text, lacks}
 use Rattle.category.proofs.Answers.{faultless_record}
 
 -- the text of an action is that of the record that it comes from
@@ -59,6 +59,14 @@ module _ (file : List ℕ) (g : faultless file ≡ true) where
 
   pub text_some : (a : ℕ) → has file a ≡ true → 0 < length (text_of file a)
   text_some a h = subst (λ (n : ℕ). 0 < n) (sym (length_text file a)) (size_some a h)
+
+  -- only an action without a record has an empty text
+  pub has_size : (a : ℕ) → has file a ≡ ltb 0 (text_size file a)
+  has_size a = by (has file a) refl
+    where
+      by : (b : Bool) → has file a ≡ b → b ≡ ltb 0 (text_size file a)
+      by true e = sym (lt-ltb 0 (text_size file a) (size_some a e))
+      by false e = ap (ltb 0) (lacks file a e)
 
   -- an action has a record where the search answers one
   pub has_record : (a : ℕ) → has file a ≡ ltb (record_of file a) (count file)

@@ -109,7 +109,7 @@ impl<'a> CategoryFile<'a> {
 fn lends_at(lender: &CategoryRecord, action: u16) -> bool
     ensures { result ≡ files.lends_at lender.now.file.now action lender.now.number }
 {
-    lender.has_action(action) & (lender.kind() == 0)
+    lender.has_action(action) && (lender.kind() == 0)
 }
 
 // Whether some record from a number on lends the text of an action.

@@ -1,5 +1,5 @@
 // The input checks 1 to 7.
-ghost use Rattle.std.specs.Prelude.{◌≡◌};
+ghost use Rattle.std.specs.Prelude.{◌≡◌, IfErr};
 ghost use Rattle.checker.specs.Outcomes as outcomes;
 
 use crate::InputFault;
@@ -7,7 +7,7 @@ use nodes::{Ask, read};
 
 // 6 and 7: the number of nodes, the ask's marking and formula.
 fn check_last(a: Ask, formulas: &[u8], tree: &[u8]) -> Result<(), InputFault>
-    ensures { outcomes.input result ≡ outcomes.last_fault a formulas.now tree.now }
+    ensures { (outcomes.input result ≡ outcomes.last_fault a formulas.now tree.now) × IfErr result outcomes.OwnNumber }
 {
     let Some(_) = tables::records(tree.len(), read::NODE, 1, 65536) else {
         return Err(InputFault::Tree);
@@ -21,9 +21,9 @@ fn check_last(a: Ask, formulas: &[u8], tree: &[u8]) -> Result<(), InputFault>
     }
 }
 
-// 1 to 7, in their order.
+// 1 to 7, in their order. Number and record fix the case.
 pub fn check_input(ask: &[u8], net: &[u8], formulas: &[u8], tree: &[u8]) -> Result<(), InputFault>
-    ensures { outcomes.input result ≡ outcomes.input_fault ask.now net.now formulas.now tree.now }
+    ensures { (outcomes.input result ≡ outcomes.input_fault ask.now net.now formulas.now tree.now) × IfErr result outcomes.OwnNumber }
 {
     if ask.len() != read::ASK {
         return Err(InputFault::Ask);

@@ -1,13 +1,15 @@
 -- Arcs that are put one after the other. Assumes nothing.
 use mathlib.Core.Path.{◌≡◌, refl, sym, ap, ap₂, ◌∙◌, subst}
-use mathlib.Core.Bool.{Bool, true, false, cond}
+use mathlib.Core.Bool.{Bool, true, false, cond, ◌&&◌}
 use mathlib.Core.List.{List, [], ◌∷◌, ◌++◌, append_assoc, append-nil}
 use Prim.Native.Nat.{ℕ, zero, suc, ◌+◌, ◌-◌, ◌/◌, ◌%◌, ◌^◌, ◌≤◌, ◌<◌}
 use native.Mathlib.Nat.{add-zero, add-suc, zero-div, le_refl}
 use native.Mathlib.Numerals.{add-one}
 use native.Mathlib.Omega.{arith}
 use lib.ListN.{length, length-append}
-use lib.Dec.{eqb}
+use lib.Dec.{eqb, leb}
+use borrow.Author.Tests.{eqb-true, leb-true}
+use Rattle.tables.proofs.Tests.{and_left, and_right}
 use lib.Pow.{shr-shr}
 use Rattle.bitset.specs.Sets.{member}
 use Rattle.net.specs.Table.{pre_at, post_at, net_of, table_sized, transitions}
@@ -97,6 +99,11 @@ rest_more s p rest e = ap (λ (x : ℕ). x / 2) e ∙ shr-shr s p 1
 
 pub rest_gap : (s p rest : ℕ) → rest ≡ s / 2 ^ p → rest / 256 ≡ s / 2 ^ (p + 8)
 rest_gap s p rest e = ap (λ (x : ℕ). x / 256) e ∙ shr-shr s p 8
+
+-- the code's test of both
+pub gap_test : (n p places : ℕ) → (eqb (n % 256) 0 && leb (p + 8) places) ≡ true → (n % 256 ≡ 0) × (p + 8 ≤ places)
+gap_test n p places e =
+    (eqb-true (n % 256) 0 (and_left (eqb (n % 256) 0) (leb (p + 8) places) e), leb-true (p + 8) places (and_right (eqb (n % 256) 0) (leb (p + 8) places) e))
 
 -- the low digits of a number that 256 divides
 low : (n j : ℕ) → n % 256 ≡ 0 → j < 8 → n / 2 ^ j % 2 ≡ 0

@@ -10,7 +10,7 @@ use lib.Seq.{sets}
 use Rattle.texts.specs.Text.{bytes, decimal}
 use Rattle.texts.proofs.Buffers.{sets_append}
 use Rattle.texts.proofs.Digits.{decimal_length}
-use Rattle.pnml_shape.specs.Drawing.{joined, openings, place_pieces, transition_pieces}
+use Rattle.pnml_shape.specs.Drawing.{joined, openings, place_pieces, transition_pieces, pressed_pieces, optional_pieces}
 use Rattle.pnml_net.specs.Nets.{entry_by}
 use Rattle.pnml_put.specs.Put.{Put, Fit, Whole, named_text, arc_text}
 use Rattle.pnml_put.proofs.Puts.{put_length}
@@ -120,6 +120,15 @@ end_long {l} i a end h k t =
     let x = decimal_length 1 i (omega arith) in
     let y = decimal_length 4 a (omega arith) in
     (omega (arith, e, n, x, y), omega (arith, e, n, x, y))
+
+pub pressed_long : (i a : ℕ) → i < 100 → a < 100000
+    → (length (joined (pressed_pieces i a)) ≤ 65) × (65 ≤ length (joined (pressed_pieces i a)) + 20)
+pressed_long i a h k = end_long i a (bytes "</text></name></transition>") h k (pressed_text i a)
+
+pub optional_long : (i a : ℕ) → i < 100 → a < 100000
+    → (length (joined (optional_pieces i a)) ≤ 104) × (104 ≤ length (joined (optional_pieces i a)) + 20)
+optional_long i a h k =
+    end_long i a (bytes "</text></name><toolspecific tool=\"desk\" version=\"1\"/></transition>") h k (optional_text i a)
 
 pub transition_long : {most : ℕ} (i a : ℕ) (b : Bool) → i < 100 → a < 65536 → most ≡ cond b 104 65
     → (length (joined (transition_pieces i (entry_by a b))) ≤ most) × (most ≤ length (joined (transition_pieces i (entry_by a b))) + 20)

@@ -1,12 +1,15 @@
 -- Texts that are put one after the other, where there is room. Assumes nothing.
 use mathlib.Core.Path.{◌≡◌, refl, sym, ap, ap₂, ◌∙◌}
 use mathlib.Core.List.{List, [], ◌∷◌, ◌++◌}
-use Prim.Native.Nat.{ℕ, ◌+◌, ◌≤◌, ◌<◌}
+use Prim.Native.Nat.{ℕ, ◌+◌, ◌/◌, ◌%◌, ◌≤◌, ◌<◌}
+use native.Mathlib.Nat.{mod-lt}
 use native.Mathlib.Numerals.{add-one}
 use native.Mathlib.Omega.{arith}
 use lib.ListN.{length, take, get_or, set, length-append}
 use lib.Seq.{sets, length-sets, take-suc, take-length}
+use Rattle.texts.specs.Text.{decimal}
 use Rattle.texts.proofs.Buffers.{sets_append}
+use Rattle.texts.proofs.Digits.{decimal_one, decimal_more}
 use Rattle.pnml_put.specs.Put.{Put}
 
 -- one text after another
@@ -61,3 +64,16 @@ word_all {l} {l'} {at} w i h p =
       bound = omega arith;
       bytes = p.bytes ∙ ap (λ (x : List ℕ). sets l at x) (ap (λ (k : ℕ). take k w) h ∙ take-length w);
     }
+
+-- ---- a number, digit by digit
+
+pub number_one : (l : List ℕ) (at n : ℕ) → n < 10 → Put 1 l (set l at (48 + n)) at (decimal n) (at + 1)
+number_one l at n h = recast (omega arith) (sym (decimal_one n h)) (byte l at (48 + n))
+
+-- the digits before the last, and the last
+pub number_split : (n : ℕ) → 10 ≤ n → decimal (n / 10) ++ decimal (n % 10) ≡ decimal n
+number_split n h = ap (λ (x : List ℕ). decimal (n / 10) ++ x) (decimal_one (n % 10) (mod-lt n (omega arith))) ∙ sym (decimal_more n h)
+
+pub number_more : {k : ℕ} {l l' l'' : List ℕ} {at mid r : ℕ} (n : ℕ) → 10 ≤ n → Put k l l' at (decimal (n / 10)) mid
+    → Put 1 l' l'' mid (decimal (n % 10)) r → Put (k + 1) l l'' at (decimal n) r
+number_more n h p q = recast (omega arith) (number_split n h) (join p q)

@@ -82,6 +82,13 @@ open_low v m e = by (eqb v 0) refl e
     by true p q = let z : ◌≡◌ {A = ℕ} 0 1 = cc in absurd (omega arith)
     by false p q = omega (arith, eqb-false v 0 p)
 
+pub open_high : (v m : ℕ) → (eqb v 0 || ltb m v) ≡ false → v ≤ m
+open_high v m e = by (eqb v 0) refl e
+  where
+    by : (x : Bool) → eqb v 0 ≡ x → (x || ltb m v) ≡ false → v ≤ m
+    by true p q = let z : ◌≡◌ {A = ℕ} 0 1 = cc in absurd (omega arith)
+    by false p q = ltb-false m v q
+
 -- no further digit
 pub read_over : (t : List ℕ) (at lo hi k v : ℕ) → Begun t at k v → k < length t → other (get_or t k 0) ≡ true → (leb lo v && leb v hi) ≡ true
     → Read t at lo hi k v

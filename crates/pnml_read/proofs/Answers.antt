@@ -20,6 +20,7 @@ use Rattle.std.proofs.lemmas.Result.{err_from_is_err_and}
 use Rattle.pnml_scan.specs.declared.Left.{Left}
 use Rattle.pnml_scan.specs.Serving.{Opened}
 use Rattle.pnml_turn.specs.declared.Reading.{Reading}
+use Rattle.pnml_turn.specs.declared.Stopped.{Stopped}
 use Rattle.pnml_turn.specs.Serving.{ReadAll, ReadPart}
 use Rattle.pnml_records.specs.Records.{records_by}
 use Rattle.pnml_records.proofs.Records.{records-by}
@@ -27,16 +28,15 @@ use Rattle.pnml_records.proofs.Stores.{by_length}
 use Rattle.pnml_read.specs.declared.Found.{Found}
 use Rattle.pnml_read.specs.declared.ReadRefusal.{ReadRefusal}
 use Rattle.pnml_read.specs.declared.ReadRefusal.TheVariants.{Shape, Places, Transitions, Short}
-use Rattle.pnml_read.specs.Answer.{Answer, refuse, few, granted, drawn_answer, read_answer, of_left, number_of, place_of, found_of, answer_of}
+use Rattle.pnml_read.specs.Answer.{Answer, refuse, few, granted, drawn_answer, read_answer, number_of, place_of, found_of, answer_of}
 
 -- the outcome is right for the text
 pub right : (t : List ℕ) → Right t (reading t)
 right t = exact.right t
 
--- what a `?` returns where the text leaves the shape
-pub exit : (P : Result Found ReadRefusal → Type 0) (r : Result Found ReadRefusal) (e : Left) → IsErrAnd r (λ x. x ≡ of_left e)
-    → P (Err (Shape e.at)) → P r
-exit P r e h p = let x = err_from_is_err_and r h in subst P (sym (x.1 ∙ ap Err x.2)) p
+-- what a `?` returns where the text leaves the shape at an offset
+pub exit : (P : Result Found ReadRefusal → Type 0) (r : Result Found ReadRefusal) (k : ℕ) → IsErrAnd r (λ x. x ≡ Shape k) → P (Err (Shape k)) → P r
+exit P r k h p = let x = err_from_is_err_and r h in subst P (sym (x.1 ∙ ap Err x.2)) p
 
 -- 13 in the opening
 pub opening_answer : (t : List ℕ) (e : Left) → Opened t (Err e) → (room : List ℕ) → answer_of (Err (Shape e.at)) room ≡ read_answer (reading t) room
@@ -55,8 +55,8 @@ pub same_answer : {p q m n k l : ℕ} {a b : List ℕ} → p ≡ q → m ≡ n �
 same_answer e f g h = cc
 
 -- 13
-pub left_answer : (t : List ℕ) (e : Left) (pre post action : List ℕ) → ReadPart t e.at pre post action → (room : List ℕ)
-    → answer_of (Err (Shape e.at)) room ≡ read_answer (reading t) room
+pub left_answer : (t : List ℕ) (e : Stopped) (pre post action : List ℕ)
+    → ReadPart t e.at e.before.places e.before.transitions e.before.marking pre post action → (room : List ℕ) → answer_of (Err (Shape e.at)) room ≡ read_answer (reading t) room
 unfolding read_answer number_of place_of found_of
 left_answer t e pre post action h room = sym (ap (λ o. read_answer o room) h.same)
 

@@ -6,6 +6,7 @@ use Rattle.pnml_shape.specs.Drawing.{Drawing}
 use Rattle.pnml_shape.specs.Machine.{Outcome, stopped, drawn}
 use Rattle.pnml_net.specs.Nets.{marking_of, records_of}
 use Rattle.pnml_scan.specs.declared.Left.{Left}
+use Rattle.pnml_turn.specs.declared.Stopped.{Stopped}
 use Rattle.pnml_read.specs.declared.Found.{Found}
 use Rattle.pnml_read.specs.declared.ReadRefusal.{ReadRefusal}
 use Rattle.pnml_read.specs.declared.ReadRefusal.TheVariants.{Shape, Places, Transitions, Short}
@@ -59,6 +60,10 @@ nothing_found = record { places = 0; marking = 0; length = 0 }
 -- where the text left the shape
 abbrev pub of_left : Left → ReadRefusal
 of_left left = Shape left.at
+
+-- the same, whatever was read before
+abbrev pub of_stopped : Stopped → ReadRefusal
+of_stopped stop = Shape stop.at
 
 -- its number and place
 unfoldable pub number_of : Result Found ReadRefusal → ℕ

@@ -8,6 +8,7 @@ ghost use Rattle.pnml_read.specs.Answer as answers;
 
 use pnml_scan::Left;
 use pnml_state::Entries;
+use pnml_turn::Stopped;
 
 // What a text gives: how many places, their marking, and the bytes of the records.
 #[derive(Clone, Copy)]
@@ -34,6 +35,16 @@ impl From<Left> for ReadRefusal {
 
     fn from(left: Left) -> ReadRefusal {
         ReadRefusal::Shape(left.at)
+    }
+}
+
+impl From<Stopped> for ReadRefusal {
+    ghost use Rattle.pnml_read.specs.Answer.{of_stopped};
+
+    ghost from_gives = { λ stop why. why ≡ of_stopped stop };
+
+    fn from(stop: Stopped) -> ReadRefusal {
+        ReadRefusal::from(Left { at: stop.at })
     }
 }
 

@@ -169,6 +169,9 @@ pub record Made (t : List ℕ) (at n lo hi k v : ℕ) : Type 0 where
   pub most : v ≤ hi
   pub same : (K : ℕ → Format) → scan (digits n lo hi K) at (drop at t) ≡ scan (digits v lo hi K) k (drop k t)
 
+pub made_none : (t : List ℕ) (at n lo hi : ℕ) → Reading t at n hi → Made t at n lo hi at n
+made_none t at n lo hi r = record { inside = r.inside; from = omega arith; most = r.most; same = λ K. refl }
+
 module _ (t : List ℕ) (at n lo hi k v r : ℕ) (m : Made t at n lo hi k v) (d : DigitIs t k r) where
   -- one digit more
   pub made_more : (v ≡ 0 → ⊥) → possible (10 * v + r) lo hi ≡ true → Made t at n lo hi (k + 1) (10 * v + r)

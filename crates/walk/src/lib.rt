@@ -221,4 +221,18 @@ impl Walk {
             Err(WalkRefusal::Unloaded)
         }
     }
+
+    // What is read, in numbers: all 0 where it is refused.
+    pub fn read_numbers(self) -> Reading
+        ensures { (result.marking ≡ calls.read_marking self) × (result.count ≡ calls.read_count self) × (result.next ≡ calls.read_next self) }
+    {
+        match self.read() {
+            Ok(reading) => reading,
+            Err(_) => Reading {
+                marking: 0,
+                count: 0,
+                next: 0,
+            },
+        }
+    }
 }

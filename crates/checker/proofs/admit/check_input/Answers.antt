@@ -10,7 +10,7 @@ use Rattle.net.specs.Answer.{checked, table_fault}
 use Rattle.net.proofs.Answers.{refusal_number}
 use Rattle.pctl.specs.Table as pctl
 use Rattle.checker.specs.Outcomes as outcomes
-use Rattle.checker.proofs.Admitting.{ask_size, bad_ask, input_table, input_formulas, input_last}
+use Rattle.checker.proofs.Admitting.{ask_size, bad_ask, table_number, input_table, input_formulas, input_last}
 use Rattle.checker.proofs.Scans.{told_number}
 use Rattle.checker.proofs.admit.check_input.Goals as goal
 
@@ -20,33 +20,37 @@ told_checked Size = refl
 told_checked (Record r) = refl
 
 pub returns-then-ask-ne-ASK : goal.returns-then-ask-ne-ASK
-unfolding outcomes.input outcomes.fault_of
-returns-then-ask-ne-ASK c = ask_size _ _ _ _ c.if-ask-ne-ASK.true
+unfolding outcomes.input outcomes.fault_of outcomes.OwnNumber
+returns-then-ask-ne-ASK c = (ask_size _ _ _ _ c.if-ask-ne-ASK.true, tt)
 
 pub returns-then-not-a : goal.returns-then-not-a
-unfolding outcomes.input outcomes.fault_of
-returns-then-not-a c = bad_ask _ _ _ _ c.if-ask-ne-ASK.false _ c.ask_of-a.ensures c.if-not-a.true
+unfolding outcomes.input outcomes.fault_of outcomes.OwnNumber
+returns-then-not-a c = (bad_ask _ _ _ _ c.if-ask-ne-ASK.false _ c.ask_of-a.ensures c.if-not-a.true, tt)
 
 pub returns-in_err-check_table : goal.returns-in_err-check_table
-unfolding outcomes.input outcomes.fault_of checked
+unfolding outcomes.input outcomes.fault_of outcomes.OwnNumber checked
 returns-in_err-check_table c =
     let p = err_from_is_err_and c.from_residual.result c.from_residual.ensures.1 in
+    let e = c.in_err-check_table.ensures ∙ ap (λ (n : ℕ). table_fault n c.args.net.now) c.from.ensures in
     rw (p.1, p.2)
-    (input_table _ _ _ _ c.if-ask-ne-ASK.false _ c.ask_of-a.ensures c.if-not-a.false _
-    (c.in_err-check_table.ensures ∙ ap (λ (n : ℕ). table_fault n c.args.net.now) c.from.ensures) (refusal_number _))
+    (input_table _ _ _ _ c.if-ask-ne-ASK.false _ c.ask_of-a.ensures c.if-not-a.false _ e (refusal_number _), table_number _ _ _ e (refusal_number _))
 
 pub returns-in_err-check_formulas : goal.returns-in_err-check_formulas
-unfolding outcomes.input outcomes.fault_of checked
+unfolding outcomes.input outcomes.fault_of outcomes.OwnNumber checked
 returns-in_err-check_formulas c =
     let p = err_from_is_err_and c.from_residual-in_err-check_formulas.result c.from_residual-in_err-check_formulas.ensures.1 in
-    rw (p.1, p.2)
-    (input_formulas _ _ _ _ c.if-ask-ne-ASK.false _ c.ask_of-a.ensures c.if-not-a.false
-    (c.in_ok-check_table.ensures ∙ ap (λ (n : ℕ). table_fault n c.args.net.now) c.from.ensures) _
-    (told_checked _ ∙ c.in_err-check_formulas.ensures) (told_number _))
+    rw (p.1, p.2) (
+      input_formulas _ _ _ _ c.if-ask-ne-ASK.false _ c.ask_of-a.ensures c.if-not-a.false
+          (c.in_ok-check_table.ensures ∙ ap (λ (n : ℕ). table_fault n c.args.net.now) c.from.ensures) _
+          (told_checked _ ∙ c.in_err-check_formulas.ensures) (told_number _),
+      tt,
+    )
 
 pub returns : goal.returns
 unfolding checked pctl.checked
-returns c =
-    input_last _ _ _ _ c.if-ask-ne-ASK.false _ c.ask_of-a.ensures c.if-not-a.false
-    (c.in_ok-check_table.ensures ∙ ap (λ (n : ℕ). table_fault n c.args.net.now) c.from.ensures)
-    c.in_ok-check_formulas.ensures _ c.check_last.ensures
+returns c = (
+  input_last _ _ _ _ c.if-ask-ne-ASK.false _ c.ask_of-a.ensures c.if-not-a.false
+      (c.in_ok-check_table.ensures ∙ ap (λ (n : ℕ). table_fault n c.args.net.now) c.from.ensures)
+      c.in_ok-check_formulas.ensures _ c.check_last.ensures.0,
+  c.check_last.ensures.1,
+)

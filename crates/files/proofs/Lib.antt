@@ -1,0 +1,2 @@
+-- The laws of `files` for other proofs.
+pub mod Held
