@@ -1,7 +1,8 @@
 -- The code's answer in the numbers of documents 01 and 02. Assumes nothing.
-use Rattle.std.specs.Prelude.{ℕ, Result, Ok, Err}
+use Rattle.std.specs.Prelude.{ℕ, Result, Ok, Err, ⊤}
 use Rattle.tables.specs.Faults.{fault}
 use Rattle.checker.specs.Outcomes.{verdict}
+use Rattle.checker.specs.Outcomes as outcomes
 use Rattle.compact_tables.specs.Tables.{Tables}
 use Rattle.compact_tables.specs.Answer.{Answer}
 use Rattle.compact.specs.declared.CompactRefusal.{CompactRefusal}
@@ -13,6 +14,11 @@ unfoldable pub numbers_of : Result ℕ CompactRefusal → Numbers
 numbers_of (Ok count) = record { number = 0; place = 0; count = count }
 numbers_of (Err (Rejected r)) = record { number = (verdict (Err r)).number; place = (verdict (Err r)).place; count = 0 }
 numbers_of (Err Short) = record { number = 12; place = 0; count = 0 }
+
+-- what the input checks find has a number of its own
+unfoldable pub OwnNumbers : CompactRefusal → Type 0
+OwnNumbers (Rejected r) = outcomes.OwnNumbers r
+OwnNumbers Short = ⊤
 
 -- the answer, with these lent tables after
 unfoldable pub answer_of : Result ℕ CompactRefusal → Tables → Answer

@@ -1,7 +1,7 @@
 // Room in the formula table: the tables of an accepted tree without the formula records that the asked one does not reach, written to lent tables.
 #![tactic(auto)]
 
-ghost use Rattle.std.specs.Prelude.{◌≡◌, ◌*◌, ◌+◌, ◌≤◌, ◌<◌, length};
+ghost use Rattle.std.specs.Prelude.{◌≡◌, ◌*◌, ◌+◌, ◌≤◌, ◌<◌, length, IfErr};
 ghost use Rattle.std.proofs.lemmas.List.Edits.{sets};
 ghost use Rattle.tables.specs.Lists.{tab, laid};
 ghost use Rattle.tables.specs.Below.{count_below};
@@ -163,7 +163,8 @@ fn compact_accepted(
     new_tree: &mut [u8],
 ) -> Result<usize, CompactRefusal>
     requires { serving.Ready ask.now formulas.now tree.now }
-    ensures { results.answer_of result (tables.tables new_ask.new new_formulas.new new_tree.new) ≡ answers.write_answer ask.now formulas.now tree.now (tables.tables new_ask.old new_formulas.old new_tree.old) }
+    ensures { (results.answer_of result (tables.tables new_ask.new new_formulas.new new_tree.new) ≡ answers.write_answer ask.now formulas.now tree.now (tables.tables new_ask.old new_formulas.old new_tree.old))
+        × IfErr result results.OwnNumbers }
 {
     let a = read::ask_of(ask);
     let f = a.formula as usize;
@@ -184,7 +185,8 @@ fn compact_accepted(
 }
 
 // Writes ask, formulas and tree of an accepted tree without the formula records that the asked one does not reach, each at the start of a lent table,
-// whose other bytes stay. A refused call writes nothing. Where it is granted, the new tables are accepted with as many nodes and claim the same.
+// whose other bytes stay. A refused call writes nothing. Where it is granted, the new tables are accepted with as many nodes and claim the same. Number and
+// place fix what the input checks find.
 pub fn compact(
     ask: &[u8],
     net: &[u8],
@@ -196,6 +198,7 @@ pub fn compact(
 ) -> Result<usize, CompactRefusal>
     ensures answer { results.answer_of result (tables.tables new_ask.new new_formulas.new new_tree.new) ≡ answers.compact_answer ask.now net.now formulas.now tree.now (tables.tables new_ask.old new_formulas.old new_tree.old) }
     ensures worth { (results.numbers_of result).number ≡ 0 → theorem.Stands ask.now net.now formulas.now tree.now (tables.compacted (tables.tables ask.now formulas.now tree.now)) }
+    ensures own { IfErr result results.OwnNumbers }
 {
     checker::check(ask, net, formulas, tree)?;
     compact_accepted(ask, formulas, tree, new_ask, new_formulas, new_tree)

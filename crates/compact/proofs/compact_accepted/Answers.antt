@@ -1,6 +1,7 @@
 -- `compact::compact_accepted` meets its contract. Assumes nothing.
 use borrow.Author.Rules.{rules}
 use Rattle.compact_tables.specs.Tables.{tables}
+use Rattle.compact.specs.Result.{OwnNumbers}
 use Rattle.compact.proofs.Records.{few}
 use Rattle.compact.proofs.Answers.{asked_inside, number_few, refused_short, ask-room, formulas-room, nodes-room, writes}
 use Rattle.compact.proofs.compact_accepted.Goals as goal
@@ -26,11 +27,14 @@ overflow_mul-count c =
     search rules
 
 pub returns-then-not-new_ask-count : goal.returns-then-not-new_ask-count
-returns-then-not-new_ask-count c =
-    refused_short
-    (record { ready = c.requires; asked = c.ask_of-a.ensures; marked = c.reached-marks.ensures; numbered = c.numbers_of-numbers.ensures })
-    (tables c.args.new_ask.now c.args.new_formulas.now c.args.new_tree.now)
-    c.if-not-new_ask-count.true-raw
+unfolding OwnNumbers
+returns-then-not-new_ask-count c = (
+  refused_short
+      (record { ready = c.requires; asked = c.ask_of-a.ensures; marked = c.reached-marks.ensures; numbered = c.numbers_of-numbers.ensures })
+      (tables c.args.new_ask.now c.args.new_formulas.now c.args.new_tree.now)
+      c.if-not-new_ask-count.true-raw,
+  tt,
+)
 
 pub put_ask-requires : goal.put_ask-requires
 put_ask-requires c =
@@ -58,8 +62,10 @@ put_nodes-requires c = (
 )
 
 pub returns : goal.returns
-returns c =
-    writes
-    (record { ready = c.requires; asked = c.ask_of-a.ensures; marked = c.reached-marks.ensures; numbered = c.numbers_of-numbers.ensures })
-    (tables c.args.new_ask.now c.args.new_formulas.now c.args.new_tree.now)
-    c.if-not-new_ask-count.false-raw c.put_ask.ensures c.put_formulas.ensures c.put_nodes.ensures
+returns c = (
+  writes
+      (record { ready = c.requires; asked = c.ask_of-a.ensures; marked = c.reached-marks.ensures; numbered = c.numbers_of-numbers.ensures })
+      (tables c.args.new_ask.now c.args.new_formulas.now c.args.new_tree.now)
+      c.if-not-new_ask-count.false-raw c.put_ask.ensures c.put_formulas.ensures c.put_nodes.ensures,
+  tt,
+)
