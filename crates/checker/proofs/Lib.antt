@@ -6,3 +6,4 @@ pub mod Admitted
 pub mod Accepted
 pub mod Numbered
 pub mod Demand
+pub mod Cases

@@ -1,38 +1,18 @@
 -- What a room holds, byte by byte. Assumes nothing.
-use Rattle.std.proofs.Common.{ℕ, zero, suc, ◌+◌, ◌*◌, ◌%◌, ◌≤◌, ◌<◌, ◌≡◌, refl, Option, Some, None, MatchOption, Bool, true, false, cond, List, [], ◌∷◌, length, take, drop, get_or, eqb, leb, arith, add-one, drop_of_length-le, drop-cons, min}
-use Rattle.std.proofs.Math.Seq.{take-length}
-use Rattle.std.specs.List.{count_by}
+use Rattle.std.proofs.Common.{ℕ, zero, suc, ◌+◌, ◌*◌, ◌%◌, ◌≤◌, ◌<◌, ◌≡◌, refl, Option, Some, None, MatchOption, Bool, true, false, List, [], ◌∷◌, length, drop, get_or, leb, arith, add-one, drop_of_length-le, drop-cons, min}
 use Rattle.std.specs.Option.{unwrap_or}
-use Rattle.std.proofs.lemmas.List.Sums.{count_by_more_yes, count_by_more_no}
 use borrow.Author.Tests.{eq-eqb, ne_eqb, leb-true, leb-false}
 use Rattle.sample_bytes.specs.Rooms.{count, alike, checksum}
 
 -- ---- count
 
-one_more : (b : ℕ) (l : List ℕ) (i : ℕ) (t : Bool) → i < length l → eqb (get_or l i 0) b ≡ t
-    → count_by (λ x. eqb x b) (take (suc i) l) ≡ cond t (count_by (λ x. eqb x b) (take i l) + 1) (count_by (λ x. eqb x b) (take i l))
-one_more b l i true h e = rw add-one at (count_by_more_yes (λ x. eqb x b) l i 0 h e)
-one_more b l i false h e = rw add-one at (count_by_more_no (λ x. eqb x b) l i 0 h e)
-
-counted_to : (b : ℕ) (l : List ℕ) (i : ℕ) → i ≤ length l → count_by (λ x. eqb x b) (take i l) ≡ count b l i
+pub counted : (b : ℕ) (l : List ℕ) (i n : ℕ) → n ≡ count b l i → get_or l i 0 ≡ b → n + 1 ≡ count b l (i + 1)
 unfolding count
-counted_to b l zero h = refl
-counted_to b l (suc i) h =
-    let p = counted_to b l i (omega arith) in
-    let q = one_more b l i (eqb (get_or l i 0) b) (omega arith) refl in
-    rw p at q
+counted b l i n e h = let t = eq-eqb (get_or l i 0) b h in rw (add-one i, t, e)
 
-pub counted : (b : ℕ) (l : List ℕ) → count_by (λ x. eqb x b) l ≡ count b l (length l)
-counted b l = let p = counted_to b l (length l) (omega arith) in let e = take-length l in rw e at p
-
--- one byte further
-pub counted_one : (b : ℕ) (l : List ℕ) (i n : ℕ) → n ≡ count b l i → get_or l i 0 ≡ b → n + 1 ≡ count b l (i + 1)
+pub passed : (b : ℕ) (l : List ℕ) (i n : ℕ) → n ≡ count b l i → (get_or l i 0 ≡ b → ⊥) → n ≡ count b l (i + 1)
 unfolding count
-counted_one b l i n e h = let t = eq-eqb (get_or l i 0) b h in rw (add-one i, t, e)
-
-pub counted_none : (b : ℕ) (l : List ℕ) (i n : ℕ) → n ≡ count b l i → (get_or l i 0 ≡ b → ⊥) → n ≡ count b l (i + 1)
-unfolding count
-counted_none b l i n e h = let t = ne_eqb (get_or l i 0) b h in rw (add-one i, t, e)
+passed b l i n e h = let t = ne_eqb (get_or l i 0) b h in rw (add-one i, t, e)
 
 -- ---- alike
 

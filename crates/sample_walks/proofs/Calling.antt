@@ -8,10 +8,7 @@ use Rattle.net.specs.declared.Numbers.{Numbers}
 use Rattle.net.specs.Answer.{Answer}
 use Rattle.walk.specs.declared.Walk.{Walk}
 use Rattle.walk.specs.History as history
-use Rattle.walk.specs.declared.Reading.{Reading}
-use Rattle.walk.specs.declared.WalkRefusal.{WalkRefusal}
-use Rattle.walk.specs.Calls.{answer_of, told as read_of, loaded_answer, read_marking, read_count, read_next}
-use Rattle.std.proofs.Common.{Result, Ok, Err}
+use Rattle.walk.specs.Calls.{loaded_answer, read_marking, read_count, read_next}
 use Rattle.walk.specs.History.{Call as Made, answered, called}
 use Rattle.sample_walks.specs.declared.Call.{Call}
 use Rattle.sample_walks.specs.declared.Call.TheVariants.{Fire}
@@ -49,30 +46,12 @@ in_numbers r g a n e = same ∙ ap told e
     same : r ≡ told g
     same = λ i. record { number = n.0 i; place = n.1 i; marking = n.2 i; missing = n.3 i; occupied = n.4 i }
 
--- what a read of the walk answers
-abbrev Read : Walk → Result Reading WalkRefusal → Type 0
-Read w r =
-    (answer_of r ≡ loaded_answer w) × (read_of (λ x. x.marking) r ≡ read_marking w) × (read_of (λ x. x.count) r ≡ read_count w)
-    × (read_of (λ x. x.next) r ≡ read_next w)
-
 -- and of what is read
-pub in_seen : (w : Walk) (x : Reading) → Read w (Ok x)
-    → record { number = 0; place = 0; marking = x.marking; count = x.count; next = x.next } ≡ seen w
-unfolding seen answer_of read_of
-in_seen w x e =
-    λ i.
-    record {
-      number = (ap (λ a. a.found.number) e.0) i;
-      place = (ap (λ a. a.found.place) e.0) i;
-      marking = e.1 i;
-      count = e.2 i;
-      next = e.3 i;
-    }
-
-pub in_unseen : (w : Walk) (why : WalkRefusal) (r : Numbers) → Read w (Err why) → Numbered r (answer_of {T = Unit {0}} (Err why))
-    → record { number = r.number; place = r.place; marking = 0; count = 0; next = 0 } ≡ seen w
-unfolding seen answer_of read_of
-in_unseen w why r e n =
+pub in_seen : (w : Walk) (r : Numbers) (g : Answer) (m k s : ℕ) → Numbered r g
+    → (g ≡ loaded_answer w) × (m ≡ read_marking w) × (k ≡ read_count w) × (s ≡ read_next w)
+    → record { number = r.number; place = r.place; marking = m; count = k; next = s } ≡ seen w
+unfolding seen
+in_seen w r g m k s n e =
     λ i.
     record {
       number = (n.0 ∙ ap (λ a. a.found.number) e.0) i;

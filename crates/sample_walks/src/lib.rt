@@ -176,28 +176,21 @@ pub fn loading(places: u32, marking: u64, net: &[u8]) -> Numbers
     walk::answer_numbers(answer)
 }
 
-// What is read from a walk.
+// What is read from a walk, in numbers.
 fn see(walk: Walk) -> Seen
     ensures { result ≡ samples.seen walk }
 {
-    match walk.read() {
-        Ok(read) => Seen {
-            number: 0,
-            place: 0,
-            marking: read.marking,
-            count: read.count,
-            next: read.next,
-        },
-        Err(why) => {
-            let said = walk::answer_numbers(Err(why));
-            Seen {
-                number: said.number,
-                place: said.place,
-                marking: 0,
-                count: 0,
-                next: 0,
-            }
-        }
+    let said = match walk.read() {
+        Ok(_) => walk::answer_numbers(Ok(())),
+        Err(why) => walk::answer_numbers(Err(why)),
+    };
+    let read = walk.read_numbers();
+    Seen {
+        number: said.number,
+        place: said.place,
+        marking: read.marking,
+        count: read.count,
+        next: read.next,
     }
 }
 

@@ -1,7 +1,7 @@
 -- `sample_bytes::count` meets its contract. Assumes nothing.
 use Rattle.std.proofs.Common.{rules, arith, refl, ◌≡◌, length}
 use Rattle.sample_bytes.specs.Rooms as rooms
-use Rattle.sample_bytes.proofs.Rooms.{counted_one, counted_none}
+use Rattle.sample_bytes.proofs.Rooms.{counted, passed}
 use Rattle.sample_bytes.proofs.count.Goals.{then-byte-b, else-byte-b}
 use Rattle.sample_bytes.proofs.count.Goals as goal
 
@@ -16,8 +16,8 @@ pub loop-byte-preserved : goal.loop-byte-preserved
 loop-byte-preserved c =
     let i = c.loop-byte.invariant in
     elim c.if-byte-b.branch [
-      | then-byte-b w ↦ (omega (arith, i.0, w.n-is), rw w.n-is (counted_one _ _ _ _ i.1 w.if-byte-b.true))
-      | else-byte-b w ↦ (omega (arith, i.0, w.n-is), rw w.n-is (counted_none _ _ _ _ i.1 w.if-byte-b.false))
+      | then-byte-b w ↦ (omega (arith, i.0, w.n-is), rw w.n-is (counted _ _ _ _ i.1 w.if-byte-b.true))
+      | else-byte-b w ↦ (omega (arith, i.0, w.n-is), rw w.n-is (passed _ _ _ _ i.1 w.if-byte-b.false))
     ]
 
 pub returns : goal.returns
